@@ -1,0 +1,52 @@
+"""Reads tables and clauses out of the definition, crates/definition/specs."""
+import os
+import re
+
+from source import HERE, fail, read
+
+SPECS = os.path.join(HERE, '..', 'crates', 'definition', 'specs')
+
+
+def without_comments(text):
+    return re.sub(r'--[^\n]*', '', text)
+
+
+def spec(name):
+    return without_comments(read(os.path.join(SPECS, name + '.antt')))
+
+
+LETTERS = {m.group(1): int(m.group(2), 16) for m in re.finditer(r'^(\w+) = 0x([0-9A-F]+)$', spec('Letters'), re.M)}
+
+
+def letter(text):
+    name = text.removeprefix('Letters.')
+    return int(name, 16) if name.startswith('0x') else LETTERS[name]
+
+
+def rows_of(text):
+    rows = []
+    for row in text.split('∷'):
+        words = row.split()
+        if words == ['[]']:
+            return rows
+        size = {'one': 1, 'two': 2, 'three': 3}[words[0]]
+        if len(words) != size + 2:
+            fail(f'not a row: {row}')
+        rows.append(([letter(w) for w in words[1:-1]], int(words[-1])))
+    fail('a table without an end')
+
+
+def clause(text, left):
+    """The right side of the clause that begins with `left`."""
+    m = re.search(r'^%s =(.*?)(?=\n\S|\n\n|\Z)' % re.escape(left), text, re.M | re.S)
+    return m.group(1) if m else fail(f'no clause {left}')
+
+
+def numbers(text):
+    return [int(n) for n in re.findall(r'\d+', text)]
+
+
+def words_of(text):
+    """A list of words: each `[]` or letters in parentheses."""
+    parts = re.findall(r'\(([^)]*)\)|\[\]', re.sub(r'∷ \[\]\s*$', '', text))
+    return [[letter(w) for w in part.split() if w not in ('∷', '[]')] for part in parts]

@@ -1,0 +1,3 @@
+mod Examples
+pub mod Match
+pub mod Rows

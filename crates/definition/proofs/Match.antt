@@ -1,0 +1,45 @@
+-- A key at the front or at the end splits the word. Assumes nothing.
+use mathlib.Core.Path.{_≡_, refl, sym, ap, _∙_}
+use mathlib.Core.Bool.{Bool, true, false, false≢true}
+use mathlib.Core.List.{List, [], _∷_, _++_}
+use Prim.Native.Nat.{ℕ, _-_}
+use lib.Dec.{eqb}
+use lib.ListN.{length, take, drop, take-append-drop}
+use borrow.Author.Tests.{eqb-true, eq-eqb}
+use Rattle.definition.specs.Words.{Word, both, same, beginsWith, endsWith}
+
+pub both-0 : (a b : Bool) → both a b ≡ true → a ≡ true
+both-0 true b e = refl
+both-0 false b e = absurd (false≢true e)
+
+pub both-1 : (a b : Bool) → both a b ≡ true → b ≡ true
+both-1 true b e = e
+both-1 false b e = absurd (false≢true e)
+
+pub by {κ} : {B : Type κ} (b : Bool) → (b ≡ true → B) → (b ≡ false → B) → B
+by true f g = f refl
+by false f g = g refl
+
+pub same-eq : (x y : Word) → same x y ≡ true → x ≡ y
+unfolding same
+same-eq [] [] e = refl
+same-eq [] (y ∷ ys) e = absurd (false≢true e)
+same-eq (x ∷ xs) [] e = absurd (false≢true e)
+same-eq (x ∷ xs) (y ∷ ys) e =
+    let h : x ≡ y = eqb-true x y (both-0 (eqb x y) (same xs ys) e) in
+    let t : xs ≡ ys = same-eq xs ys (both-1 (eqb x y) (same xs ys) e) in
+    λ i. h i ∷ t i
+
+pub same-refl : (w : Word) → same w w ≡ true
+unfolding same
+same-refl [] = refl
+same-refl (c ∷ w) = rw (eq-eqb c c refl) (same-refl w)
+
+pub begins-split : (w key : Word) → beginsWith w key ≡ true → w ≡ key ++ drop (length key) w
+unfolding beginsWith
+begins-split w key e = sym (take-append-drop (length key) w) ∙ ap (λ (x : Word). x ++ drop (length key) w) (same-eq (take (length key) w) key e)
+
+pub ends-split : (w key : Word) → endsWith w key ≡ true → w ≡ take (length w - length key) w ++ key
+unfolding endsWith
+ends-split w key e =
+    sym (take-append-drop (length w - length key) w) ∙ ap (λ (x : Word). take (length w - length key) w ++ x) (same-eq (drop (length w - length key) w) key e)

@@ -1,0 +1,96 @@
+-- Item 3: the endings, and the chain of the rows that are cut.
+use Prim.Native.Nat.{ℕ, _-_}
+use mathlib.Core.Bool.{Bool, true, false}
+use mathlib.Core.List.{List, [], _∷_, _++_}
+use mathlib.Core.Option.{Option, none, some}
+use lib.Dec.{eqb}
+use lib.ListN.{length, take}
+use Rattle.definition.specs.Letters.{alefMaksura, yeh}
+use Rattle.definition.specs.Words.{Word, pick, endsWith}
+use Rattle.definition.specs.Tables.{«A_10», «A_11», «A_12», «A_13», «A_14», «A_15», «A_16», «A_17», «A_18», «A_19», «A_20»}
+use Rattle.definition.specs.Search.{Rule, rule, rowAt, taken}
+use Rattle.definition.specs.Tries.{Step, Try, done, failed, after, nothing, _thenTry_, firstOf, again}
+use Rattle.definition.specs.Kind.{Kind, ifOpen}
+
+-- r_Suffix_Verb_Step1 to r_Suffix_Verb_Step2c, r_Suffix_Noun_Step1a to r_Suffix_Noun_Step3
+pub data SuffixStep : Type 0 where
+  verbStep1 verbStep2a verbStep2b verbStep2c : SuffixStep
+  nounStep1a nounStep1b nounStep2a nounStep2b nounStep2c1 nounStep2c2 nounStep3 : SuffixStep
+
+-- each step's table, and its guards by class
+unfoldable pub suffix : SuffixStep → Rule
+suffix verbStep1 = rule «A_17» (4 ∷ 5 ∷ 6 ∷ [])
+suffix verbStep2a = rule «A_18» (4 ∷ 4 ∷ 5 ∷ 6 ∷ 6 ∷ [])
+suffix verbStep2b = rule «A_19» (5 ∷ [])
+suffix verbStep2c = rule «A_20» (4 ∷ 6 ∷ [])
+suffix nounStep1a = rule «A_10» (4 ∷ 5 ∷ 6 ∷ [])
+suffix nounStep1b = rule «A_11» (6 ∷ [])
+suffix nounStep2a = rule «A_12» (5 ∷ [])
+suffix nounStep2b = rule «A_13» (5 ∷ [])
+suffix nounStep2c1 = rule «A_14» (4 ∷ [])
+suffix nounStep2c2 = rule «A_15» (4 ∷ [])
+suffix nounStep3 = rule «A_16» (3 ∷ [])
+
+-- an ending that was cut: its step, and the number of its row
+pub record Cut : Type 0 where
+  pub step : SuffixStep
+  pub row : ℕ
+
+unfoldable pub ending : Cut → Word
+ending c = rowAt (suffix (c .step) .table) (c .row) .letters
+
+-- the endings' letters joined
+unfoldable pub joined : List Cut → Word
+joined [] = []
+joined (c ∷ cs) = ending c ++ joined cs
+
+-- the letters that are left, and the endings cut so far, the last one foremost
+pub record Cutting : Type 0 where
+  pub text : Word
+  pub cuts : List Cut
+
+unfoldable pub cutOff : Cutting → Cut → Cutting
+cutOff v c = record { text = take (length (v .text) - length (ending c)) (v .text); cuts = c ∷ v .cuts }
+
+abbrev pub cutBy : SuffixStep → Cutting → Option ℕ → Try Cutting
+cutBy s v none = failed v
+cutBy s v (some r) = done (cutOff v (record { step = s; row = r }))
+
+-- one step: its longest row at the end is cut if the guard is met, and else the step fails
+unfoldable pub cut : SuffixStep → Step Cutting
+cut s v = cutBy s v (taken (endsWith (v .text)) (suffix s) (length (v .text)))
+
+-- Step1 as often as it cuts; after at least one cut, Step2a, else Step2c, else nothing, and the verb stands.
+-- With no cut: Step2b, else Step2a, else the verb fails. Each cut takes a letter, so the number of letters bounds the cuts.
+unfoldable pub verb : Step Cutting
+verb v = firstOf (
+    (cut verbStep1 thenTry again (length (v .text)) (cut verbStep1) thenTry firstOf (cut verbStep2a ∷ cut verbStep2c ∷ nothing ∷ []))
+    ∷ cut verbStep2b
+    ∷ cut verbStep2a
+    ∷ []) v
+
+-- First of: Step2c2; if open, Step1a and then 2a, 2b, 2c1 or nothing; Step1b and then 2a, 2b or 2c1; if open, 2a; 2b; none. Then Step3.
+unfoldable pub noun : Kind → Step Cutting
+noun k = firstOf (
+    cut nounStep2c2
+    ∷ ifOpen k (cut nounStep1a thenTry firstOf (cut nounStep2a ∷ cut nounStep2b ∷ cut nounStep2c1 ∷ nothing ∷ []))
+    ∷ (cut nounStep1b thenTry firstOf (cut nounStep2a ∷ cut nounStep2b ∷ cut nounStep2c1 ∷ []))
+    ∷ ifOpen k (cut nounStep2a)
+    ∷ cut nounStep2b
+    ∷ nothing
+    ∷ []) thenTry cut nounStep3
+
+-- An open word first tries the verb; the noun follows where the verb was not tried or failed. It fails where the noun's Step3 fails.
+unfoldable pub endings : Kind → Word → Try Cutting
+endings k n = firstOf (ifOpen k verb ∷ noun k ∷ []) (record { text = n; cuts = [] })
+
+-- r_Suffix_All_alef_maqsura: a last 0649 becomes 064A
+unfoldable pub alefMaqsura : Word → Word
+alefMaqsura [] = []
+alefMaqsura (c ∷ []) = pick (eqb c alefMaksura) yeh c ∷ []
+alefMaqsura (c ∷ d ∷ w) = c ∷ alefMaqsura (d ∷ w)
+
+-- if Step3 fails
+unfoldable pub ifFailed : Try Cutting → Word → Word
+ifFailed (done v) w = w
+ifFailed (failed v) w = alefMaqsura w

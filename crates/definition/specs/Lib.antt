@@ -1,0 +1,12 @@
+pub mod Letters
+pub mod Words
+pub mod Tables
+pub mod Search
+pub mod Tries
+pub mod Kind
+pub mod Normal
+pub mod Endings
+pub mod Fronts
+pub mod Finish
+pub mod Stem
+pub mod Examples
