@@ -11,7 +11,7 @@ use Rattle.definition.specs.Letters.{hamza, alefMadda, alefHamzaAbove, w
 use Rattle.definition.specs.Words.{pick, both, same, beginsWith}
 use Rattle.definition.specs.Tables.{Table, «A_1», «A_2», «A_21»}
 use Rattle.definition.specs.Search.{rowAt, longer, longest}
-use Rattle.definition.specs.Endings.{alefMaqsura}
+use Rattle.definition.specs.Endings.{suffixAllAlefMaqsura}
 use Rattle.definition.specs.Finish.{last, other}
 use Rattle.definition.proofs.Match.{by, both-0, both-1}
 
@@ -55,6 +55,6 @@ other-rows c =
     (λ t5. by (eqb c yehHamza) (agree-at other put c yehHamza refl)
     (λ t6. rw (t2, t3, t4, t5, t6))))))
 
-pub maqsura-row : (c : ℕ) → alefMaqsura (c ∷ []) ≡ replaced «A_21» (yeh ∷ []) c ∷ []
-unfolding alefMaqsura «A_21» longest longer same beginsWith
+pub maqsura-row : (c : ℕ) → suffixAllAlefMaqsura (c ∷ []) ≡ replaced «A_21» (yeh ∷ []) c ∷ []
+unfolding suffixAllAlefMaqsura «A_21» longest longer same beginsWith
 maqsura-row c = by (eqb c alefMaksura) (λ t. rw t) (λ t. rw t)

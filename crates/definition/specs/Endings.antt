@@ -85,12 +85,12 @@ unfoldable pub endings : Kind → Word → Try Cutting
 endings k n = firstOf (ifOpen k verb ∷ noun k ∷ []) (record { text = n; cuts = [] })
 
 -- r_Suffix_All_alef_maqsura: a last 0649 becomes 064A
-unfoldable pub alefMaqsura : Word → Word
-alefMaqsura [] = []
-alefMaqsura (c ∷ []) = pick (eqb c alefMaksura) yeh c ∷ []
-alefMaqsura (c ∷ d ∷ w) = c ∷ alefMaqsura (d ∷ w)
+unfoldable pub suffixAllAlefMaqsura : Word → Word
+suffixAllAlefMaqsura [] = []
+suffixAllAlefMaqsura (c ∷ []) = pick (eqb c alefMaksura) yeh c ∷ []
+suffixAllAlefMaqsura (c ∷ d ∷ w) = c ∷ suffixAllAlefMaqsura (d ∷ w)
 
 -- if Step3 fails
-unfoldable pub ifFailed : Try Cutting → Word → Word
-ifFailed (done v) w = w
-ifFailed (failed v) w = alefMaqsura w
+unfoldable pub maqsuraIfFailed : Try Cutting → Word → Word
+maqsuraIfFailed (done v) w = w
+maqsuraIfFailed (failed v) w = suffixAllAlefMaqsura w
