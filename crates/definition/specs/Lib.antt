@@ -10,3 +10,4 @@ pub mod Fronts
 pub mod Finish
 pub mod Stem
 pub mod Examples
+pub mod Demand3

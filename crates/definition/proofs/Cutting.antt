@@ -1,0 +1,155 @@
+-- The endings: the word is what is left and the rows cut, each row is listed and was cut in its turn, and two letters stay. Assumes nothing.
+use mathlib.Core.Path.{_≡_, refl, sym, ap, _∙_}
+use mathlib.Core.Bool.{Bool, true, false}
+use mathlib.Core.List.{List, [], _∷_, _++_, reverse, reverseAux, append-assoc, append-nil}
+use mathlib.Core.Option.{Option, none, some}
+use Prim.Native.Nat.{ℕ, zero, suc, _+_, _-_, _≤_, _<_, min}
+use native.Mathlib.Omega.{arith}
+use lib.Dec.{leb}
+use lib.ListN.{length, take, length-append}
+use lib.Seq.{take-at}
+use borrow.Author.Tests.{leb-true}
+use Rattle.definition.specs.Words.{Word, both, endsWith}
+use Rattle.definition.specs.Tables.{Row, «A_10», «A_11», «A_12», «A_13», «A_14», «A_15», «A_16», «A_17», «A_18», «A_19», «A_20»}
+use Rattle.definition.specs.Search.{Rule, rowAt, guard, taken}
+use Rattle.definition.specs.Tries.{after, nothing, _thenTry_, firstOf, again}
+use Rattle.definition.specs.Kind.{Kind, ifOpen}
+use Rattle.definition.specs.Endings.{SuffixStep, verbStep1, verbStep2a, verbStep2b, verbStep2c, nounStep1a, nounStep1b, nounStep2a, nounStep2b, nounStep2c1, nounStep2c2, nounStep3, suffix, Cut, Cutting, ending, joined, cutOff, cutBy, cut, verb, noun, endings}
+use Rattle.definition.specs.Stem.{without}
+use Rattle.definition.specs.Demand3.{CutFrom, CutInTurn}
+use Rattle.definition.proofs.Match.{both-0, both-1, ends-split}
+use Rattle.definition.proofs.Found.{Taken, taken-some, all, all-at}
+use Rattle.definition.proofs.Triples.{Ends, Keeps, AllKeep, keeps-first, keeps-then, keeps-if, does-again, ends-after}
+
+-- ---- what every cut keeps, all endings together keep
+module _ (P : Cutting → Type 0) (cut-keeps : (s : SuffixStep) → Keeps P (cut s)) where
+  nothing-keeps : Keeps P nothing
+  nothing-keeps v p = p
+
+  pub verb-keeps : Keeps P verb
+  unfolding verb
+  verb-keeps v =
+      keeps-first P _ (
+        keeps-then P _ _
+            (keeps-then P _ _ (cut-keeps verbStep1) (does-again P P (length (v .text)) (cut verbStep1) (cut-keeps verbStep1)))
+            (keeps-first P _ (cut-keeps verbStep2a, (cut-keeps verbStep2c, (nothing-keeps, tt)))),
+        (cut-keeps verbStep2b, (cut-keeps verbStep2a, tt)),
+      ) v
+
+  pub noun-keeps : (k : Kind) → Keeps P (noun k)
+  unfolding noun
+  noun-keeps k =
+      keeps-then P _ _
+      (keeps-first P _ (
+        cut-keeps nounStep2c2,
+        (
+          keeps-if P k _ (keeps-then P _ _ (cut-keeps nounStep1a)
+              (keeps-first P _ (cut-keeps nounStep2a, (cut-keeps nounStep2b, (cut-keeps nounStep2c1, (nothing-keeps, tt)))))),
+          (
+            keeps-then P _ _ (cut-keeps nounStep1b) (keeps-first P _ (cut-keeps nounStep2a, (cut-keeps nounStep2b, (cut-keeps nounStep2c1, tt)))),
+            (keeps-if P k _ (cut-keeps nounStep2a), (cut-keeps nounStep2b, (nothing-keeps, tt))),
+          ),
+        ),
+      ))
+      (cut-keeps nounStep3)
+
+  pub endings-keep : (k : Kind) (n : Word) → P (record { text = n; cuts = [] }) → P (after (endings k n))
+  unfolding endings
+  endings-keep k n p = ends-after P (endings k n)
+      (keeps-first P _ (keeps-if P k verb verb-keeps, (noun-keeps k, tt)) (record { text = n; cuts = [] }) p)
+
+-- ---- every row of an ending has a letter, and its guard is two letters more at least
+abbrev fits : List ℕ → Row → Bool
+fits least k = both (leb 1 (length (k .letters))) (leb (length (k .letters) + 2) (guard least (k .class)))
+
+rows-fit : (s : SuffixStep) → all (fits (suffix s .guards)) (suffix s .table) ≡ true
+unfolding suffix «A_10» «A_11» «A_12» «A_13» «A_14» «A_15» «A_16» «A_17» «A_18» «A_19» «A_20»
+rows-fit verbStep1 = refl
+rows-fit verbStep2a = refl
+rows-fit verbStep2b = refl
+rows-fit verbStep2c = refl
+rows-fit nounStep1a = refl
+rows-fit nounStep1b = refl
+rows-fit nounStep2a = refl
+rows-fit nounStep2b = refl
+rows-fit nounStep2c1 = refl
+rows-fit nounStep2c2 = refl
+rows-fit nounStep3 = refl
+
+module _ (s : SuffixStep) (r : ℕ) (h : r < length (suffix s .table)) where
+  abbrev row : Row
+  row = rowAt (suffix s .table) r
+
+  row-fits : fits (suffix s .guards) row ≡ true
+  row-fits = all-at (fits (suffix s .guards)) (suffix s .table) (rows-fit s) r h
+
+  pub row-some : 1 ≤ length (rowAt (suffix s .table) r .letters)
+  row-some = leb-true 1 (length (row .letters)) (both-0 (leb 1 (length (row .letters))) _ row-fits)
+
+  pub row-least : length (rowAt (suffix s .table) r .letters) + 2 ≤ guard (suffix s .guards) (rowAt (suffix s .table) r .class)
+  row-least =
+      leb-true (length (row .letters) + 2) (guard (suffix s .guards) (row .class)) (both-1 (leb 1 (length (row .letters))) _ row-fits)
+
+pub without-is : (n t : Word) (cs : List Cut) → n ≡ t ++ joined cs → without n cs ≡ t
+unfolding without
+without-is n t cs e =
+    let l : length n ≡ length t + length (joined cs) = ap length e ∙ length-append t (joined cs) in
+    let m : length t ≡ length n - length (joined cs) = omega arith in
+    ap (take (length n - length (joined cs))) e ∙ take-at t (joined cs) (length n - length (joined cs)) m
+
+-- ---- cuts with the last one foremost, and the same in the order cut
+pub CutBehind : Word → List Cut → Type 0
+CutBehind n [] = Unit {0}
+CutBehind n (c ∷ cs) = CutFrom n cs c × CutBehind n cs
+
+turned : (n : Word) (cs later : List Cut) → CutBehind n cs → CutInTurn n cs later → CutInTurn n [] (reverseAux cs later)
+unfolding CutBehind CutInTurn
+turned n [] later h g = g
+turned n (c ∷ cs) later h g = turned n cs (c ∷ later) (h .1) (h .0, g)
+
+pub in-turn : (n : Word) (cs : List Cut) → CutBehind n cs → CutInTurn n [] (reverse cs)
+unfolding CutInTurn
+in-turn n cs h = turned n cs [] h tt
+
+-- ---- what every cut keeps
+pub record Kept (n : Word) (v : Cutting) : Type 0 where
+  pub whole : n ≡ v .text ++ joined (v .cuts)
+  pub cut : CutBehind n (v .cuts)
+  pub least : min (length n) 2 ≤ length (v .text)
+  pub fewer : length (v .cuts) ≤ length (joined (v .cuts))
+
+module _ (n : Word) where
+  cut-kept : (s : SuffixStep) (v : Cutting) (r : ℕ) → taken (endsWith (v .text)) (suffix s) (length (v .text)) ≡ some r
+      → Kept n v → Kept n (cutOff v (record { step = s; row = r }))
+  unfolding cutOff ending joined CutBehind
+  cut-kept s v r q k =
+      let tk : Taken (endsWith (v .text)) (suffix s) (length (v .text)) r = taken-some (endsWith (v .text)) (suffix s) (length (v .text)) r q in
+      let key : Word = rowAt (suffix s .table) r .letters in
+      let t : Word = take (length (v .text) - length key) (v .text) in
+      let e : v .text ≡ t ++ key = ends-split (v .text) key (tk .matches) in
+      let l : length (v .text) ≡ length t + length key = ap length e ∙ length-append t key in
+      let some1 = row-some s r (tk .inside) in
+      let low = row-least s r (tk .inside) in
+      let enough = tk .enough in
+      let is : without n (v .cuts) ≡ v .text = without-is n (v .text) (v .cuts) (k .whole) in
+      record {
+        whole = k .whole ∙ ap (λ (x : Word). x ++ joined (v .cuts)) e ∙ append-assoc t key (joined (v .cuts));
+        cut = (record { listed = tk .inside; long = rw is enough; taken = rw is q }, k .cut);
+        least = omega arith;
+        fewer = rw (length-append key (joined (v .cuts))) (omega (arith, k .fewer));
+      }
+
+  cut-keeps-kept : (s : SuffixStep) → Keeps (Kept n) (cut s)
+  unfolding cut
+  cut-keeps-kept s v k = go (taken (endsWith (v .text)) (suffix s) (length (v .text))) refl
+    where
+      go : (o : Option ℕ) → taken (endsWith (v .text)) (suffix s) (length (v .text)) ≡ o → Ends (Kept n) (Kept n) (cutBy s v o)
+      go none q = k
+      go (some r) q = cut-kept s v r q k
+
+  kept-start : Kept n (record { text = n; cuts = [] })
+  unfolding joined CutBehind
+  kept-start = record { whole = sym (append-nil n); cut = tt; least = omega arith; fewer = omega arith }
+
+  pub endings-kept : (k : Kind) → Kept n (after (endings k n))
+  endings-kept k = endings-keep (Kept n) cut-keeps-kept k n kept-start

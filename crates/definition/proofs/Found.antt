@@ -1,0 +1,118 @@
+-- What a search answers, and a test over all rows of a table. Assumes nothing.
+use mathlib.Core.Path.{_≡_, refl, sym, ap, _∙_, subst}
+use mathlib.Core.Bool.{Bool, true, false, false≢true}
+use mathlib.Core.Logic.{_⊎_, inl, inr}
+use mathlib.Core.List.{List, [], _∷_}
+use mathlib.Core.Option.{Option, none, some}
+use Prim.Native.Nat.{ℕ, zero, suc, _+_, _≤_, _<_}
+use native.Mathlib.Omega.{arith}
+use lib.Dec.{leb}
+use lib.ListN.{length, getD}
+use borrow.Author.Tests.{leb-true, leb-false}
+use Rattle.definition.specs.Words.{Word, pick, both}
+use Rattle.definition.specs.Tables.{Row, Table}
+use Rattle.definition.specs.Search.{rowAt, longer, longest, Rule, guard, met, taken}
+use Rattle.definition.proofs.Match.{both-0, both-1, by}
+
+-- r is a row that matches, or stands behind all rows
+abbrev pub Found : (Word → Bool) → Table → ℕ → Type 0
+Found match t r = ((r < length t) × (match (rowAt t r .letters) ≡ true)) ⊎ (r ≡ length t)
+
+-- no row that matches is longer than r
+abbrev pub Longest : (Word → Bool) → Table → ℕ → Type 0
+Longest match t r = (i : ℕ) → i < length t → match (rowAt t i .letters) ≡ true → length (rowAt t i .letters) ≤ length (rowAt t r .letters)
+
+module _ (match : Word → Bool) (k : Row) (t : Table) (r : ℕ) where
+  found-next : Found match t r → Found match (k ∷ t) (suc r)
+  found-next (inl h) = inl (omega arith, h .1)
+  found-next (inr h) = inr (ap suc h)
+
+  longer-found : (b : Bool) → match (k .letters) ≡ b → Found match t r → Found match (k ∷ t) (longer b k t r)
+  unfolding longer
+  longer-found true e f = go (leb (length (rowAt t r .letters)) (length (k .letters)))
+    where
+      go : (c : Bool) → Found match (k ∷ t) (pick c 0 (suc r))
+      go true = inl (omega arith, e)
+      go false = found-next f
+  longer-found false e f = found-next f
+
+  longer-longest : (b : Bool) → match (k .letters) ≡ b → Longest match t r → Longest match (k ∷ t) (longer b k t r)
+  unfolding longer
+  longer-longest true e l = go (leb (length (rowAt t r .letters)) (length (k .letters))) refl
+    where
+      go : (c : Bool) → leb (length (rowAt t r .letters)) (length (k .letters)) ≡ c → Longest match (k ∷ t) (pick c 0 (suc r))
+      go true h zero i m = omega arith
+      go true h (suc i) n m = let g = leb-true (length (rowAt t r .letters)) (length (k .letters)) h in let f = l i (omega arith) m in omega arith
+      go false h zero i m = let g = leb-false (length (rowAt t r .letters)) (length (k .letters)) h in omega arith
+      go false h (suc i) n m = l i (omega arith) m
+  longer-longest false e l = go
+    where
+      go : Longest match (k ∷ t) (suc r)
+      go zero n m = absurd (false≢true (sym e ∙ m))
+      go (suc i) n m = l i (omega arith) m
+
+pub longest-found : (match : Word → Bool) (t : Table) → Found match t (longest match t)
+unfolding longest
+longest-found match [] = inr refl
+longest-found match (k ∷ t) = longer-found match k t (longest match t) (match (k .letters)) refl (longest-found match t)
+
+pub longest-longest : (match : Word → Bool) (t : Table) → Longest match t (longest match t)
+unfolding longest
+longest-longest match [] = λ i h m. absurd (omega arith)
+longest-longest match (k ∷ t) = longer-longest match k t (longest match t) (match (k .letters)) refl (longest-longest match t)
+
+pub row-behind : (t : Table) → rowAt t (length t) .class ≡ 0
+row-behind [] = refl
+row-behind (k ∷ t) = row-behind t
+
+pub no-letters : (t : Table) → length (rowAt t (length t) .letters) ≡ 0
+no-letters [] = refl
+no-letters (k ∷ t) = no-letters t
+
+pub met-guard : (least : List ℕ) (k n : ℕ) → met least k n ≡ true → guard least k ≤ n
+unfolding met
+met-guard least zero n e = absurd (false≢true e)
+met-guard least (suc k) n e = leb-true (guard least (suc k)) n e
+
+no-row : (least : List ℕ) (k n : ℕ) → k ≡ 0 → met least k n ≡ true → ⊥
+unfolding met
+no-row least zero n z e = false≢true e
+no-row least (suc k) n z e = omega arith
+
+-- r is the row that a step with the rule s takes: it is listed, it matches, its guard is met by n letters, and no row that matches is longer
+pub record Taken (match : Word → Bool) (s : Rule) (n r : ℕ) : Type 0 where
+  pub inside : r < length (s .table)
+  pub matches : match (rowAt (s .table) r .letters) ≡ true
+  pub enough : guard (s .guards) (rowAt (s .table) r .class) ≤ n
+  pub best : Longest match (s .table) r
+
+module _ (match : Word → Bool) (s : Rule) (n : ℕ) where
+  abbrev best : ℕ
+  best = longest match (s .table)
+
+  here : met (s .guards) (rowAt (s .table) best .class) n ≡ true → Found match (s .table) best → Taken match s n best
+  here m (inl f) = record {
+    inside = f .0;
+    matches = f .1;
+    enough = met-guard (s .guards) (rowAt (s .table) best .class) n m;
+    best = longest-longest match (s .table);
+  }
+  here m (inr f) = absurd (no-row (s .guards) (rowAt (s .table) best .class) n (ap (λ (r : ℕ). rowAt (s .table) r .class) f ∙ row-behind (s .table)) m)
+
+  pub taken-some : (r : ℕ) → taken match s n ≡ some r → Taken match s n r
+  unfolding taken
+  taken-some r e = go (met (s .guards) (rowAt (s .table) best .class) n) refl e
+    where
+      go : (b : Bool) → met (s .guards) (rowAt (s .table) best .class) n ≡ b → pick b (some best) none ≡ some r → Taken match s n r
+      go true m e = let q : best ≡ r = cc in subst (Taken match s n) q (here m (longest-found match (s .table)))
+      go false m e = let z : _≡_ {A = ℕ} 0 1 = cc in absurd (omega arith)
+
+-- ---- a test of every row
+abbrev pub all : (Row → Bool) → Table → Bool
+all p [] = true
+all p (k ∷ t) = both (p k) (all p t)
+
+pub all-at : (p : Row → Bool) (t : Table) → all p t ≡ true → (r : ℕ) → r < length t → p (rowAt t r) ≡ true
+all-at p [] e r h = absurd (omega arith)
+all-at p (k ∷ t) e zero h = both-0 (p k) (all p t) e
+all-at p (k ∷ t) e (suc r) h = all-at p t (both-1 (p k) (all p t) e) r (omega arith)

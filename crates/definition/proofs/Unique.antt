@@ -1,0 +1,85 @@
+-- The search's answer is the only row that matches and is longest: what a search over bytes has to meet. Assumes nothing.
+use mathlib.Core.Path.{_≡_, refl, sym, ap, _∙_, subst}
+use mathlib.Core.Bool.{Bool, true, false, false≢true, not}
+use mathlib.Core.Logic.{_⊎_, inl, inr}
+use mathlib.Core.List.{List, [], _∷_}
+use Prim.Native.Nat.{ℕ, zero, suc, _+_, _-_, _≤_, _<_}
+use native.Mathlib.Omega.{arith}
+use lib.Dec.{leb}
+use lib.ListN.{length, take, drop}
+use borrow.Author.Tests.{leb-true, not-true}
+use Rattle.definition.specs.Words.{Word, both, same, beginsWith, endsWith}
+use Rattle.definition.specs.Tables.{Row, Table, «A_0», «A_3», «A_4», «A_5», «A_6», «A_7», «A_8», «A_9», «A_10», «A_11», «A_12», «A_13», «A_14», «A_15», «A_16», «A_17», «A_18», «A_19», «A_20»}
+use Rattle.definition.specs.Search.{rowAt, longest}
+use Rattle.definition.proofs.Match.{both-0, both-1, same-eq, same-refl}
+use Rattle.definition.proofs.Found.{Found, Longest, all, all-at, longest-found, longest-longest, no-letters}
+
+-- every row has a letter, and no two rows are the same
+abbrev pub distinct : Table → Bool
+distinct [] = true
+distinct (k ∷ t) = both (leb 1 (length (k .letters))) (both (all (λ (j : Row). not (same (k .letters) (j .letters))) t) (distinct t))
+
+distinct-tail : (k : Row) (t : Table) → distinct (k ∷ t) ≡ true → distinct t ≡ true
+distinct-tail k t d = both-1 (all (λ (j : Row). not (same (k .letters) (j .letters))) t) (distinct t) (both-1 (leb 1 (length (k .letters))) _ d)
+
+some-letter : (t : Table) → distinct t ≡ true → (r : ℕ) → r < length t → 1 ≤ length (rowAt t r .letters)
+some-letter [] d r h = absurd (omega arith)
+some-letter (k ∷ t) d zero h = leb-true 1 (length (k .letters)) (both-0 _ _ d)
+some-letter (k ∷ t) d (suc r) h = some-letter t (distinct-tail k t d) r (omega arith)
+
+other-row : (k : Row) (t : Table) → distinct (k ∷ t) ≡ true → (r : ℕ) → r < length t → k .letters ≡ rowAt t r .letters → ⊥
+other-row k t d r h e =
+    let a = not-true (same (k .letters) (rowAt t r .letters))
+    (all-at (λ (j : Row). not (same (k .letters) (j .letters))) t (both-0 _ _ (both-1 (leb 1 (length (k .letters))) _ d)) r h) in
+    false≢true (sym a ∙ ap (λ (x : Word). same x (rowAt t r .letters)) e ∙ same-refl (rowAt t r .letters))
+
+one-row : (t : Table) → distinct t ≡ true → (r s : ℕ) → r < length t → s < length t → rowAt t r .letters ≡ rowAt t s .letters → r ≡ s
+one-row [] d r s h g e = absurd (omega arith)
+one-row (k ∷ t) d zero zero h g e = refl
+one-row (k ∷ t) d zero (suc s) h g e = absurd (other-row k t d s (omega arith) e)
+one-row (k ∷ t) d (suc r) zero h g e = absurd (other-row k t d r (omega arith) (sym e))
+one-row (k ∷ t) d (suc r) (suc s) h g e =
+    ap suc (one-row t (distinct-tail k t d) r s (omega arith) (omega arith) e)
+
+-- of two words that match, equally long, both are the same
+abbrev pub Rigid : (Word → Bool) → Type 0
+Rigid match = (a b : Word) → match a ≡ true → match b ≡ true → length a ≡ length b → a ≡ b
+
+pub rigid-front : (w : Word) → Rigid (beginsWith w)
+unfolding beginsWith
+rigid-front w a b p q e = sym (same-eq (take (length a) w) a p) ∙ ap (λ (n : ℕ). take n w) e ∙ same-eq (take (length b) w) b q
+
+pub rigid-end : (w : Word) → Rigid (endsWith w)
+unfolding endsWith
+rigid-end w a b p q e = sym (same-eq (drop (length w - length a) w) a p) ∙ ap (λ (n : ℕ). drop (length w - n) w) e ∙ same-eq (drop (length w - length b) w) b q
+
+module _ (match : Word → Bool) (t : Table) (d : distinct t ≡ true) where
+  pub longest-is : Rigid match → (r : ℕ) → r < length t → match (rowAt t r .letters) ≡ true → Longest match t r → longest match t ≡ r
+  longest-is rigid r h m l = go (longest-found match t)
+    where
+      s : ℕ
+      s = longest match t
+
+      up : length (rowAt t r .letters) ≤ length (rowAt t s .letters)
+      up = longest-longest match t r h m
+
+      go : Found match t s → s ≡ r
+      go (inl f) = let low = l s (f .0) (f .1) in
+          one-row t d s r (f .0) h (rigid (rowAt t s .letters) (rowAt t r .letters) (f .1) m (omega (arith, up)))
+      go (inr f) =
+          let z : length (rowAt t s .letters) ≡ 0 = ap (λ (i : ℕ). length (rowAt t i .letters)) f ∙ no-letters t in
+          absurd (omega (arith, up, some-letter t d r h))
+
+  pub longest-none : ((r : ℕ) → r < length t → match (rowAt t r .letters) ≡ true → ⊥) → longest match t ≡ length t
+  longest-none h = go (longest-found match t)
+    where
+      go : Found match t (longest match t) → longest match t ≡ length t
+      go (inl f) = absurd (h (longest match t) (f .0) (f .1))
+      go (inr f) = f
+
+-- all tables
+distinct-all : (distinct «A_0» ≡ true) × (distinct «A_3» ≡ true) × (distinct «A_4» ≡ true) × (distinct «A_5» ≡ true) × (distinct «A_6» ≡ true) × (distinct «A_7» ≡ true)
+    × (distinct «A_8» ≡ true) × (distinct «A_9» ≡ true) × (distinct «A_10» ≡ true) × (distinct «A_11» ≡ true) × (distinct «A_12» ≡ true) × (distinct «A_13» ≡ true)
+    × (distinct «A_14» ≡ true) × (distinct «A_15» ≡ true) × (distinct «A_16» ≡ true) × (distinct «A_17» ≡ true) × (distinct «A_18» ≡ true) × (distinct «A_19» ≡ true) × (distinct «A_20» ≡ true)
+unfolding «A_0» «A_3» «A_4» «A_5» «A_6» «A_7» «A_8» «A_9» «A_10» «A_11» «A_12» «A_13» «A_14» «A_15» «A_16» «A_17» «A_18» «A_19» «A_20» same
+distinct-all = (refl, refl, refl, refl, refl, refl, refl, refl, refl, refl, refl, refl, refl, refl, refl, refl, refl, refl, refl)
