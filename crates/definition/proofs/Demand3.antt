@@ -78,7 +78,7 @@ turned : (w : Word) → reverse (chain w) ≡ cuts w
 unfolding chain
 turned w = reverse-reverse (cuts w)
 
-pub demand3 : (w : Word) → Demand3 w
+pub demand3 : (w : Word) → Demand3 w (stem w)
 unfolding stem chain back cuts applied front head run
 demand3 w =
     let k : Kind = kind w in

@@ -1,13 +1,19 @@
-mod Examples
-pub mod Match
+pub mod Main
+pub mod Examples
 pub mod Rows
+pub mod Match
 pub mod Found
 pub mod Unique
 pub mod Triples
 pub mod Cutting
+pub mod Cover
+pub mod Step1a
+pub mod Again
 pub mod Fronting
 pub mod Lengths
 pub mod Whole
 pub mod Changed
+pub mod OneChange
 pub mod Plain
 pub mod Demand3
+pub mod Only

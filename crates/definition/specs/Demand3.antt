@@ -16,7 +16,7 @@ use Rattle.definition.specs.Kind.{kind}
 use Rattle.definition.specs.Normal.{normalise}
 use Rattle.definition.specs.Endings.{Cut, suffix, joined, endings}
 use Rattle.definition.specs.Fronts.{PrefixStep, prefixStep1, prefixStep2, prefixStep3aNoun, prefixStep3bNoun, prefixStep3Verb, prefixStep4Verb, prefix, Applied, frontRow, replacement}
-use Rattle.definition.specs.Stem.{stem, chain, back, applied, front, head, without, run}
+use Rattle.definition.specs.Stem.{chain, back, applied, front, head, without, run}
 
 -- ---- the back
 
@@ -119,12 +119,12 @@ pub data Change (last failed fourth : Type 0) (c d : ℕ) : Type 0 where
   -- no listed change touches it
   stays : (last → failed → c ≡ alefMaksura → ⊥) → (fourth → ⊥) → (c < alefMadda) ⊎ (yehHamza < c) → d ≡ c → Change last failed fourth c d
 
--- the letter of the stem at i, against that of the head letter and the run
-abbrev pub ChangeAt : Word → ℕ → Type 0
-ChangeAt w i =
-    Change (suc i ≡ length (stem w)) (Failed (endings (kind w) (normalise w)))
+-- the letter of the stem s at i, against that of the head letter and the run
+abbrev pub ChangeAt : Word → Word → ℕ → Type 0
+ChangeAt w s i =
+    Change (suc i ≡ length s) (Failed (endings (kind w) (normalise w)))
     ((isApplied prefixStep4Verb (applied w) ≡ true) × (i ≡ length (head w) + place (applied w)))
-    (getD (head w ++ run w) i 0) (getD (stem w) i 0)
+    (getD (head w ++ run w) i 0) (getD s i 0)
 
 -- neither a key of A_0 nor one of 0622 to 0626
 pub record Plain (c : ℕ) : Type 0 where
@@ -135,8 +135,8 @@ abbrev pub AllOf : (ℕ → Type 0) → Word → Type 0
 AllOf P [] = Unit {0}
 AllOf P (c ∷ w) = P c × AllOf P w
 
--- ---- demand 3
-pub record Demand3 (w : Word) : Type 0 where
+-- ---- demand 3 of the word w and its stem s
+pub record Demand3 (w s : Word) : Type 0 where
   -- the normalised word is front, run and back
   pub parts : normalise w ≡ front w ++ (run w ++ back w)
   -- the front is what the changes of item 4 put into it, in their order, with at most one head letter
@@ -148,9 +148,9 @@ pub record Demand3 (w : Word) : Type 0 where
   pub joins : back w ≡ joined (reverse (chain w))
   pub cut : CutInTurn (normalise w) [] (chain w)
   -- the stem is the head letter and the run, letter for letter, changed only as listed
-  pub size : length (stem w) ≡ length (head w ++ run w)
-  pub changes : (i : ℕ) → i < length (stem w) → ChangeAt w i
+  pub size : length s ≡ length (head w ++ run w)
+  pub changes : (i : ℕ) → i < length s → ChangeAt w s i
   -- it has from min(n, 2) to n letters, each of them plain
-  pub least : min (length (normalise w)) 2 ≤ length (stem w)
-  pub most : length (stem w) ≤ length (normalise w)
-  pub plain : AllOf Plain (stem w)
+  pub least : min (length (normalise w)) 2 ≤ length s
+  pub most : length s ≤ length (normalise w)
+  pub plain : AllOf Plain s

@@ -1,0 +1,72 @@
+-- What is shown of the definition: the main theorems of this crate, each closed by the file that proves it. Assumes nothing.
+use mathlib.Core.Path.{_≡_}
+use mathlib.Core.Bool.{true}
+use mathlib.Core.List.{[], _∷_, map}
+use Prim.Native.Nat.{ℕ, _≤_, _<_}
+use lib.ListN.{length}
+use Rattle.definition.specs.Letters.{hamza, alef, waw, yeh}
+use Rattle.definition.specs.Words.{Word, beginsWith, endsWith}
+use Rattle.definition.specs.Tables.{Table, «A_1», «A_2», «A_21»}
+use Rattle.definition.specs.Search.{rowAt, longest}
+use Rattle.definition.specs.Tries.{done, again}
+use Rattle.definition.specs.Kind.{Kind}
+use Rattle.definition.specs.Normal.{normalise}
+use Rattle.definition.specs.Endings.{SuffixStep, Cutting, cut, suffixAllAlefMaqsura}
+use Rattle.definition.specs.Finish.{last, other, finish}
+use Rattle.definition.specs.Stem.{cutting, stem}
+use Rattle.definition.specs.Demand3.{Demand3}
+use Rattle.definition.specs.Examples.{computed, twelve, work, examples}
+use Rattle.definition.proofs.Examples.{examples-right}
+use Rattle.definition.proofs.Rows.{replaced, last-rows, other-rows, maqsura-row}
+use Rattle.definition.proofs.Found.{Longest}
+use Rattle.definition.proofs.Unique.{distinct, rigid-front, rigid-end, longest-is}
+use Rattle.definition.proofs.Step1a.{Idle, AllSteps, notStep1a, no-step1a}
+use Rattle.definition.proofs.Again.{again-ends}
+use Rattle.definition.proofs.Only.{demand3-only, cutWord, no-cuts}
+use Rattle.definition.proofs.Demand3.{demand3}
+
+-- demand 3 holds of every word and its stem
+pub main-demand3 : (w : Word) → Demand3 w (stem w)
+main-demand3 = demand3
+
+-- and of no other stem
+pub main-only : (w s : Word) → Demand3 w s → s ≡ stem w
+main-only = demand3-only
+
+-- so normalising and finishing with no cuts between does not meet it
+pub main-no-cuts : Demand3 cutWord (finish (normalise cutWord)) → ⊥
+main-no-cuts = no-cuts
+
+-- document 01's twelve words, and the worked examples
+pub main-twelve : map computed twelve ≡ twelve
+main-twelve = examples-right .0
+
+pub main-examples : map work examples ≡ examples
+main-examples = examples-right .1
+
+-- a row in front that matches and is longest is the one that the search answers; likewise at the end
+pub main-front : (w : Word) (t : Table) → distinct t ≡ true → (r : ℕ) → r < length t → beginsWith w (rowAt t r .letters) ≡ true
+    → Longest (beginsWith w) t r → longest (beginsWith w) t ≡ r
+main-front w t d = longest-is (beginsWith w) t d (rigid-front w)
+
+pub main-end : (w : Word) (t : Table) → distinct t ≡ true → (r : ℕ) → r < length t → endsWith w (rowAt t r .letters) ≡ true
+    → Longest (endsWith w) t r → longest (endsWith w) t ≡ r
+main-end w t d = longest-is (endsWith w) t d (rigid-end w)
+
+-- a step that is repeated as often as the word has letters ends where it takes no row
+pub main-again : (s : SuffixStep) (n : ℕ) (v : Cutting) → length (v .text) ≤ n → (x : Cutting) × (again n (cut s) v ≡ done x) × Idle s x
+main-again = again-ends
+
+-- the noun's Step1a cuts in no word
+pub main-step1a : (k : Kind) (n : Word) → AllSteps notStep1a (cutting k n .cuts)
+main-step1a = no-step1a
+
+-- the letters that items 5 and 3 name in words are the rows of A_1, A_2 and A_21
+pub main-last : (c : ℕ) → last c ≡ replaced «A_1» (hamza ∷ hamza ∷ hamza ∷ []) c
+main-last = last-rows
+
+pub main-other : (c : ℕ) → other c ≡ replaced «A_2» (alef ∷ waw ∷ yeh ∷ []) c
+main-other = other-rows
+
+pub main-maqsura : (c : ℕ) → suffixAllAlefMaqsura (c ∷ []) ≡ replaced «A_21» (yeh ∷ []) c ∷ []
+main-maqsura = maqsura-row
