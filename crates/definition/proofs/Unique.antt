@@ -7,11 +7,11 @@ use Prim.Native.Nat.{ℕ, zero, suc, _+_, _-_, _≤_, _<_}
 use native.Mathlib.Omega.{arith}
 use lib.Dec.{leb}
 use lib.ListN.{length, take, drop}
-use borrow.Author.Tests.{leb-true, not-true}
-use Rattle.definition.specs.Words.{Word, both, same, beginsWith, endsWith}
+use borrow.Author.Tests.{leb-true, le-leb, lt-leb, not-true}
+use Rattle.definition.specs.Words.{Word, pick, both, same, beginsWith, endsWith}
 use Rattle.definition.specs.Tables.{Row, Table, «A_0», «A_1», «A_2», «A_3», «A_4», «A_5», «A_6», «A_7», «A_8», «A_9», «A_10», «A_11», «A_12», «A_13», «A_14», «A_15», «A_16», «A_17», «A_18», «A_19», «A_20», «A_21»}
-use Rattle.definition.specs.Search.{rowAt, longest}
-use Rattle.definition.proofs.Match.{both-0, both-1, same-eq, same-refl}
+use Rattle.definition.specs.Search.{rowAt, longer, longest}
+use Rattle.definition.proofs.Match.{both-0, both-1, by, same-eq, same-refl}
 use Rattle.definition.proofs.Found.{Found, Longest, all, all-at, longest-found, longest-longest, no-letters}
 
 -- every row has a letter, and no two rows are the same
@@ -70,12 +70,32 @@ module _ (match : Word → Bool) (t : Table) (d : distinct t ≡ true) where
           let z : length (rowAt t s .letters) ≡ 0 = ap (λ (i : ℕ). length (rowAt t i .letters)) f ∙ no-letters t in
           absurd (omega (arith, up, some-letter t d r h))
 
-  pub longest-none : ((r : ℕ) → r < length t → match (rowAt t r .letters) ≡ true → ⊥) → longest match t ≡ length t
-  longest-none h = go (longest-found match t)
-    where
-      go : Found match t (longest match t) → longest match t ≡ length t
-      go (inl f) = absurd (h (longest match t) (f .0) (f .1))
-      go (inr f) = f
+-- with no row that matches, the search answers the number of rows
+pub longest-none : (match : Word → Bool) (t : Table) → ((r : ℕ) → r < length t → match (rowAt t r .letters) ≡ true → ⊥) → longest match t ≡ length t
+longest-none match t h = go (longest-found match t)
+  where
+    go : Found match t (longest match t) → longest match t ≡ length t
+    go (inl f) = absurd (h (longest match t) (f .0) (f .1))
+    go (inr f) = f
+
+-- a row that matches, is longer than the rows before it that match, and no shorter than any that matches, is the one that the search answers
+pub longest-at : (match : Word → Bool) (t : Table) (r : ℕ) → r < length t → match (rowAt t r .letters) ≡ true
+    → ((k : ℕ) → k < r → match (rowAt t k .letters) ≡ true → length (rowAt t k .letters) < length (rowAt t r .letters)) → Longest match t r → longest match t ≡ r
+unfolding longest longer
+longest-at match [] r h m a l = absurd (omega arith)
+longest-at match (k ∷ t) zero h m a l =
+    ap (λ (b : Bool). longer b k t (longest match t)) m
+    ∙ ap (λ (b : Bool). pick b 0 (suc (longest match t))) (le-leb (length (rowAt t (longest match t) .letters)) (length (k .letters)) (behind (longest-found match t)))
+  where
+    behind : Found match t (longest match t) → length (rowAt t (longest match t) .letters) ≤ length (k .letters)
+    behind (inl f) = l (suc (longest match t)) (omega (arith, f .0)) (f .1)
+    behind (inr f) = let z : length (rowAt t (longest match t) .letters) ≡ 0 = ap (λ (i : ℕ). length (rowAt t i .letters)) f ∙ no-letters t in omega arith
+longest-at match (k ∷ t) (suc r) h m a l =
+    let e : longest match t ≡ r = longest-at match t r (omega arith) m (λ i g. a (suc i) (omega arith)) (λ i g. l (suc i) (omega arith)) in
+    ap (longer (match (k .letters)) k t) e
+    ∙ by (match (k .letters))
+    (λ b. ap (λ (x : Bool). longer x k t r) b ∙ ap (λ (x : Bool). pick x 0 (suc r)) (lt-leb (length (rowAt t r .letters)) (length (k .letters)) (a 0 (omega arith) b)))
+    (λ b. ap (λ (x : Bool). longer x k t r) b)
 
 -- all tables pass the test
 abbrev pub allTables : List Table
