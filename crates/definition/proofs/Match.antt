@@ -1,11 +1,11 @@
--- A key at the front or at the end splits the word. Assumes nothing.
+-- Tests and their two answers; a key at the front or at the end splits the word. Assumes nothing.
 use mathlib.Core.Path.{_≡_, refl, sym, ap, _∙_}
 use mathlib.Core.Bool.{Bool, true, false, false≢true}
 use mathlib.Core.List.{List, [], _∷_, _++_}
-use Prim.Native.Nat.{ℕ, _-_}
-use lib.Dec.{eqb}
+use Prim.Native.Nat.{ℕ, _-_, _≤_, _<_}
+use lib.Dec.{eqb, leb}
 use lib.ListN.{length, take, drop, take-append-drop}
-use borrow.Author.Tests.{eqb-true, eq-eqb}
+use borrow.Author.Tests.{eqb-true, eq-eqb, leb-true, leb-false}
 use Rattle.definition.specs.Words.{Word, both, same, beginsWith, endsWith}
 
 pub both-0 : (a b : Bool) → both a b ≡ true → a ≡ true
@@ -19,6 +19,12 @@ both-1 false b e = absurd (false≢true e)
 pub by {κ} : {B : Type κ} (b : Bool) → (b ≡ true → B) → (b ≡ false → B) → B
 by true f g = f refl
 by false f g = g refl
+
+pub by-le {κ} : {B : Type κ} (m n : ℕ) → (m ≤ n → B) → (n < m → B) → B
+by-le m n f g = by (leb m n) (λ e. f (leb-true m n e)) (λ e. g (leb-false m n e))
+
+pub clash : {b : Bool} → b ≡ true → b ≡ false → ⊥
+clash p q = false≢true (sym q ∙ p)
 
 pub same-eq : (x y : Word) → same x y ≡ true → x ≡ y
 unfolding same

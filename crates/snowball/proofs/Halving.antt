@@ -9,10 +9,11 @@ use native.Mathlib.Nat.{eq-or-lt-of-le}
 use lib.ListN.{length, getD}
 use lib.Dec.{leb}
 use borrow.Author.Tests.{leb-true, leb-false}
+use Rattle.definition.proofs.Match.{clash}
 use Rattle.snowball.specs.Rows.{before}
 use Rattle.snowball.specs.Search.{lcp, Halved}
 use Rattle.snowball.proofs.Table.{Rows}
-use Rattle.snowball.proofs.Order.{clash, bool-case, lcp-sym, ultra, between}
+use Rattle.snowball.proofs.Order.{bool-case, lcp-sym, ultra, between}
 
 -- what is known of a row that was compared and is not after s, with c its bytes in common
 abbrev Passed : List (List ℕ) → List ℕ → ℕ → ℕ → Type 0

@@ -11,6 +11,7 @@ use lib.Seq.{drop-cons}
 use lib.Dec.{eqb, ltb}
 use borrow.Author.Tests.{eqb-true, eqb-false, eq-eqb, ne-eqb, lt-ltb, le-ltb, ltb-true, ltb-false}
 use Rattle.definition.specs.Words.{pick, both}
+use Rattle.definition.proofs.Match.{both-0, both-1, clash}
 use Rattle.snowball.specs.Rows.{before, begins}
 use Rattle.snowball.specs.Search.{lcp}
 
@@ -20,14 +21,6 @@ bool-case false = inr refl
 
 same? : (x y : ℕ) → (x ≡ y) ⊎ (x ≡ y → ⊥)
 same? x y = ⊎-elim (λ e. inl (eqb-true x y e)) (λ e. inr (eqb-false x y e)) (bool-case (eqb x y))
-
-bit : Bool → ℕ
-bit true = 1
-bit false = 0
-
-pub clash : {b : Bool} → b ≡ true → b ≡ false → ⊥
-unfolding bit
-clash {b} p q = let z : bit true ≡ bit false = ap bit (sym p ∙ q) in omega arith
 
 lcp-same : (x y : ℕ) (u s : List ℕ) → x ≡ y → lcp (x ∷ u) (y ∷ s) ≡ suc (lcp u s)
 unfolding lcp
@@ -171,17 +164,12 @@ peel-before (suc q) (x ∷ u) (y ∷ s) h =
 abbrev pub Begins : List ℕ → List ℕ → Type 0
 Begins u v = length u ≤ lcp u v
 
-pub both-true : (a b : Bool) → both a b ≡ true → (a ≡ true) × (b ≡ true)
-both-true true b e = (refl, e)
-both-true false b e = absurd (clash e refl)
-
 pub begins-true : (u s : List ℕ) → begins u s ≡ true → Begins u s
 unfolding lcp
 begins-true [] s e = zero-le
 begins-true (x ∷ u) [] e = absurd (clash e refl)
 begins-true (x ∷ u) (y ∷ s) e =
-    let p : (eqb x y ≡ true) × (begins u s ≡ true) = both-true (eqb x y) (begins u s) e in
-    subst (λ (n : ℕ). suc (length u) ≤ n) (sym (lcp-same x y u s (eqb-true x y (p .0)))) (suc-le-suc (begins-true u s (p .1)))
+    subst (λ (n : ℕ). suc (length u) ≤ n) (sym (lcp-same x y u s (eqb-true x y (both-0 (eqb x y) (begins u s) e)))) (suc-le-suc (begins-true u s (both-1 (eqb x y) (begins u s) e)))
 
 pub true-begins : (u s : List ℕ) → Begins u s → begins u s ≡ true
 unfolding lcp

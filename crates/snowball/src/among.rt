@@ -179,7 +179,13 @@ fn halve(text: &[u8], cursor: usize, limit: usize, rows: &[[u8; 6]], lens: &[u8]
 }
 
 // The halving of find_among_b: the same with text and rows read from their ends.
-fn halve_b(text: &[u8], cursor: usize, limit_backward: usize, rows: &[[u8; 6]], lens: &[u8]) -> Place
+fn halve_b(
+    text: &[u8],
+    cursor: usize,
+    limit_backward: usize,
+    rows: &[[u8; 6]],
+    lens: &[u8],
+) -> Place
     requires { ⌜ («limit_backward» ≤ cursor) × (cursor ≤ length (now text)) ⌝ }
     requires { ⌜ T (ordered (keysBack (now rows) (now lens)) (now lens)) ⌝ }
     ensures { λ r. ⌜ Halved (keysBack (now (rows .entry)) (now (lens .entry))) (behind (now (text .entry)) cursor «limit_backward») (r .row) (r .common) ⌝ }
@@ -237,7 +243,14 @@ fn walk(i: usize, common: usize, lens: &[u8], links: &[u8]) -> usize
 }
 
 // The number of the longest row at the cursor, no byte of it behind the limit; the number of rows where none matches.
-fn row_among(text: &[u8], cursor: usize, limit: usize, rows: &[[u8; 6]], lens: &[u8], links: &[u8]) -> usize
+fn row_among(
+    text: &[u8],
+    cursor: usize,
+    limit: usize,
+    rows: &[[u8; 6]],
+    lens: &[u8],
+    links: &[u8],
+) -> usize
     requires { ⌜ (cursor ≤ limit) × (limit ≤ length (now text)) ⌝ }
     requires { ⌜ T (wellFormed (keys (now rows) (now lens)) (now lens) (now links)) ⌝ }
     ensures { λ r. ⌜ ((cs : List ℕ) → length cs ≡ length (now (rows .entry))
@@ -250,7 +263,14 @@ fn row_among(text: &[u8], cursor: usize, limit: usize, rows: &[[u8; 6]], lens: &
 }
 
 // The number of the longest row that ends at the cursor, no byte of it before limit_backward; the number of rows where none matches.
-fn row_among_b(text: &[u8], cursor: usize, limit_backward: usize, rows: &[[u8; 6]], lens: &[u8], links: &[u8]) -> usize
+fn row_among_b(
+    text: &[u8],
+    cursor: usize,
+    limit_backward: usize,
+    rows: &[[u8; 6]],
+    lens: &[u8],
+    links: &[u8],
+) -> usize
     requires { ⌜ («limit_backward» ≤ cursor) × (cursor ≤ length (now text)) ⌝ }
     requires { ⌜ T (wellFormed (keysBack (now rows) (now lens)) (now lens) (now links)) ⌝ }
     ensures { λ r. ⌜ ((cs : List ℕ) → length cs ≡ length (now (rows .entry))

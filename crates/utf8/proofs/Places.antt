@@ -13,7 +13,7 @@ use borrow.Author.Tests.{ltb-true, ltb-false, leb-true, leb-false, lt-ltb, le-lt
 use Rattle.definition.specs.Words.{pick}
 use Rattle.utf8.specs.Utf8.{Scalars, encode1, encode}
 use Rattle.utf8.specs.Places.{starts, leads, size, At, NextStart, LastStart}
-use Rattle.utf8.proofs.Utf8.{by, by-le}
+use Rattle.definition.proofs.Match.{by, by-le, clash}
 use Rattle.utf8.proofs.Text.{Lead, Conts, Shape, shape, encode1-pos, encode-append, encode-one}
 use Rattle.utf8.proofs.Starts.{leads-append}
 
@@ -109,9 +109,6 @@ module _ (cs : List ℕ) (n : ℕ) (h : n < length cs) where
       ∙ ap starts (List·getD-append (s .t) v 0 j g)
       ∙ conts-at (s .t) (s .conts) j g
 
-pub true-false : {X : Type 0} (t : Bool) → t ≡ true → t ≡ false → X
-true-false t e f = let z : true ≡ false = sym e ∙ f in let y : _≡_ {A = ℕ} 0 1 = cc in absurd (omega arith)
-
 -- what the walks find
 module _ (a cs : List ℕ) (len : ℕ) (e : take len a ≡ encode cs) (len-size : len ≡ size cs) where
   pub same : (k : ℕ) → k < len → getD a k 0 ≡ getD (encode cs) k 0
@@ -126,10 +123,10 @@ module _ (a cs : List ℕ) (len : ℕ) (e : take len a ≡ encode cs) (len-size 
         by-le r q
             (λ g. by-le q r (λ g′. omega arith)
             (λ g′. let m : r < len = omega (arith, len-size) in
-            true-false (starts (getD a r 0)) (f .there m) (ap starts (same r m) ∙ no-start-at cs n h r (omega (arith, p .1, f .behind)) g′)))
+            absurd (clash (f .there m) (ap starts (same r m) ∙ no-start-at cs n h r (omega (arith, p .1, f .behind)) g′))))
             (λ g. let m : q < len = omega (arith, f .inside) in
             let k : n + 1 < length cs = by-le (length cs) (n + 1) (λ k. absurd (omega (arith, len-size, ap size (take-all′ cs (n + 1) k)))) (λ k. k) in
-            true-false (starts (getD a q 0)) (ap starts (same q m) ∙ start-at cs (n + 1) k) (f .between q le g)),
+            absurd (clash (ap starts (same q m) ∙ start-at cs (n + 1) k) (f .between q le g))),
       )
     where
       take-all′ : (l : List ℕ) (i : ℕ) → length l ≤ i → take i l ≡ l
@@ -147,9 +144,9 @@ module _ (a cs : List ℕ) (len : ℕ) (e : take len a ≡ encode cs) (len-size 
         by-le r q
             (λ g. by-le q r (λ g′. omega arith)
             (λ g′. let m : q < len = omega (arith, len-size, p .1) in
-            true-false (starts (getD a q 0)) (ap starts (same q m) ∙ start-at cs (n - 1) i) (f .between q g′ le)))
+            absurd (clash (ap starts (same q m) ∙ start-at cs (n - 1) i) (f .between q g′ le))))
             (λ g. let m : r < len = omega (arith, len-size, p .1, f .before) in
-            true-false (starts (getD a r 0)) (f .there) (ap starts (same r m) ∙ no-start-at cs (n - 1) i r g (omega (arith, f .before, nx, size-next cs (n - 1) i)))),
+            absurd (clash (f .there) (ap starts (same r m) ∙ no-start-at cs (n - 1) i r g (omega (arith, f .before, nx, size-next cs (n - 1) i))))),
       )
 
 -- a text has as many characters as bytes that start one

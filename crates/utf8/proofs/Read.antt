@@ -15,7 +15,7 @@ use Rattle.utf8.specs.Utf8.{State, whole, more, bad, first, filled, step
 use Rattle.utf8.specs.Reading.{forget, left, nextOf, isWhole}
 use Rattle.utf8.specs.declared.Reading.{Reading}
 use Rattle.utf8.specs.declared.Reading.the-variants.{Whole, More, Bad}
-use Rattle.utf8.proofs.Utf8.{by}
+use Rattle.definition.proofs.Match.{by}
 
 module _ (s : Reading) (k lo hi b : ℕ) (e : s ≡ More k lo hi) where
   pub next-low : b < lo → Bad ≡ nextOf s b

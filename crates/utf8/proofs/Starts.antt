@@ -11,7 +11,7 @@ use lib.Seq.{take-suc}
 use borrow.Author.Tests.{ltb-true, ltb-false, leb-true, leb-false, lt-ltb, le-ltb}
 use Rattle.definition.specs.Words.{pick}
 use Rattle.utf8.specs.Places.{starts, leads}
-use Rattle.utf8.proofs.Utf8.{by, by-le}
+use Rattle.definition.proofs.Match.{by, by-le}
 
 -- no character starts from lo up to, and not at, hi
 abbrev pub NoStart : List ℕ → ℕ → ℕ → Type 0

@@ -7,9 +7,9 @@ use mathlib.Core.List.{List, [], _∷_, _++_, append-assoc, append-nil, head-eq-
 use mathlib.Core.Option.{Option, none, some, Option·map, Option·none-ne-some, Option·some-injective}
 use native.Mathlib.Omega.{arith}
 use lib.ListN.{length, take, drop, getD, length-append}
-use Rattle.definition.specs.Words.{pick}
+use Rattle.definition.proofs.Match.{by-le}
 use Rattle.utf8.specs.Utf8.{Scalar, Scalars, encode1, encode, State, whole, more, bad, first, filled, step, onto, run, decode, isSome, wellFormed}
-use Rattle.utf8.proofs.Utf8.{by, by-le, encode1-1, encode1-2, encode1-3, encode1-4, decode-append, decode-encode, Head, head, append?, append?-inv}
+use Rattle.utf8.proofs.Utf8.{encode1-1, encode1-2, encode1-3, encode1-4, decode-append, decode-encode, Head, head, append?, append?-inv}
 
 -- ---- the bytes of one character: a lead byte, and then continuation bytes
 
@@ -46,9 +46,6 @@ pub encode-append : (u v : List ℕ) → encode (u ++ v) ≡ encode u ++ encode 
 unfolding encode
 encode-append [] v = refl
 encode-append (c ∷ u) v = ap (λ (x : List ℕ). encode1 c ++ x) (encode-append u v) ∙ sym (append-assoc (encode1 c) (encode u) (encode v))
-
-pub size : List ℕ → ℕ
-size cs = length (encode cs)
 
 pub encode-one : (c : ℕ) → encode (c ∷ []) ≡ encode1 c
 unfolding encode

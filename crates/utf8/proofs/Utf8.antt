@@ -10,17 +10,10 @@ use lib.Dec.{ltb, leb, eqb}
 use lib.ListN.{length, take, drop, getD, length-append}
 use borrow.Author.Tests.{ltb-true, ltb-false, leb-true, leb-false, eqb-true, eqb-false, lt-ltb, le-ltb, le-leb, lt-leb, eq-eqb, ne-eqb}
 use Rattle.definition.specs.Words.{pick}
+use Rattle.definition.proofs.Match.{by, by-le}
 use Rattle.utf8.specs.Utf8.{Scalar, Scalars, encode1, encode, State, whole, more, bad, first, filled, step, onto, run, decode, isSome, wellFormed}
 
 -- ---- tests
-
--- by a test's two answers
-pub by {ℓ} : (t : Bool) {A : Type ℓ} → (t ≡ true → A) → (t ≡ false → A) → A
-by true f g = f refl
-by false f g = g refl
-
-pub by-le {ℓ} : (m n : ℕ) {A : Type ℓ} → (m ≤ n → A) → (n < m → A) → A
-by-le m n f g = by (leb m n) (λ e. f (leb-true m n e)) (λ e. g (leb-false m n e))
 
 pub pick-le : (b n p q x : ℕ) → (b ≡ n → p ≤ x) → q ≤ x → pick (eqb b n) p q ≤ x
 pick-le b n p q x f h = by (eqb b n) (λ e. rw e (f (eqb-true b n e))) (λ e. rw e h)

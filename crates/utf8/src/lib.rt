@@ -1,6 +1,5 @@
 ghost use mathlib.Core.Path.{_≡_};
-ghost use Prim.Native.Nat.{ℕ, _+_, _-_, _<_, _≤_};
-ghost use lib.ListN.{length, take, drop, getD};
+
 ghost use Rattle.definition.specs.Words.{pick};
 ghost use Rattle.utf8.specs.Utf8.{first, wellFormed};
 ghost use Rattle.utf8.specs.Reading.{forget, nextOf, isWhole};

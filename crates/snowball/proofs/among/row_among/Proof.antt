@@ -27,7 +27,7 @@ returns c =
     let a = c .before .before .before .before .before in
     let p = c .before .halve in
     λ cs e. row-ahead (a .args .rows .now) (a .args .lens .now) (a .args .links .now) (p .result .row) (p .result .common) (c .walk .result) cs e
-        (between (a .args .text .now) (a .args .cursor) (a .args .limit)) (a .pre .1) (p .ensures) (c .walk .ensures)
+    (between (a .args .text .now) (a .args .cursor) (a .args .limit)) (a .pre .1) (p .ensures) (c .walk .ensures)
 
 pub row-among-spec : {M : Type 1} → statement M
 row-among-spec = tie.close (tie.spec halve-requires walk-requires returns)

@@ -26,7 +26,7 @@ returns c =
     let a = c .before .before .before .before .before in
     let p = c .before .halve-b in
     λ cs e. row-behind-is (a .args .rows .now) (a .args .lens .now) (a .args .links .now) (p .result .row) (p .result .common) (c .walk .result) cs e
-        (a .args .text .now) (a .args .cursor) (a .args .limit-backward) (a .pre .1) (p .ensures) (c .walk .ensures)
+    (a .args .text .now) (a .args .cursor) (a .args .limit-backward) (a .pre .1) (p .ensures) (c .walk .ensures)
 
 pub row-among-b-spec : {M : Type 1} → statement M
 row-among-b-spec = tie.close (tie.spec halve-b-requires walk-requires returns)
