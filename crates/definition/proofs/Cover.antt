@@ -13,15 +13,8 @@ use borrow.Author.Tests.{leb-true, leb-false, le-leb, ltb-true}
 use Rattle.definition.specs.Words.{Word, pick, both, same, endsWith}
 use Rattle.definition.specs.Tables.{Row}
 use Rattle.definition.specs.Search.{rowAt, longest, Rule, guard, met, taken}
-use Rattle.definition.proofs.Match.{both-0, both-1, by, same-eq, same-refl, ends-split}
+use Rattle.definition.proofs.Match.{both-0, both-1, by, same-eq, same-refl, ends-split, ends-of}
 use Rattle.definition.proofs.Found.{Found, all, all-at, longest-found, longest-longest, no-letters}
-
-pub ends-of : (w a key : Word) → w ≡ a ++ key → endsWith w key ≡ true
-unfolding endsWith
-ends-of w a key e =
-    let l : length w ≡ length a + length key = ap length e ∙ length-append a key in
-    let m : length a ≡ length w - length key = omega arith in
-    ap (λ (x : Word). same x key) (ap (drop (length w - length key)) e ∙ drop-at a key (length w - length key) m) ∙ same-refl key
 
 ends-ends : (w key k : Word) → endsWith w key ≡ true → endsWith key k ≡ true → endsWith w k ≡ true
 ends-ends w key k p q =

@@ -2,9 +2,11 @@
 use mathlib.Core.Path.{_≡_, refl, sym, ap, _∙_}
 use mathlib.Core.Bool.{Bool, true, false, false≢true}
 use mathlib.Core.List.{List, [], _∷_, _++_}
-use Prim.Native.Nat.{ℕ, _-_, _≤_, _<_}
+use Prim.Native.Nat.{ℕ, _+_, _-_, _≤_, _<_}
 use lib.Dec.{eqb, leb}
-use lib.ListN.{length, take, drop, take-append-drop}
+use lib.ListN.{length, take, drop, take-append-drop, length-append}
+use lib.Seq.{take-append-seam, drop-at}
+use native.Mathlib.Omega.{arith}
 use borrow.Author.Tests.{eqb-true, eq-eqb, leb-true, leb-false}
 use Rattle.definition.specs.Words.{Word, both, same, beginsWith, endsWith}
 
@@ -49,3 +51,14 @@ pub ends-split : (w key : Word) → endsWith w key ≡ true → w ≡ take (leng
 unfolding endsWith
 ends-split w key e =
     sym (take-append-drop (length w - length key) w) ∙ ap (λ (x : Word). take (length w - length key) w ++ x) (same-eq (drop (length w - length key) w) key e)
+
+pub begins-of : (w key r : Word) → w ≡ key ++ r → beginsWith w key ≡ true
+unfolding beginsWith
+begins-of w key r e = ap (λ (x : Word). same x key) (ap (take (length key)) e ∙ take-append-seam key r) ∙ same-refl key
+
+pub ends-of : (w a key : Word) → w ≡ a ++ key → endsWith w key ≡ true
+unfolding endsWith
+ends-of w a key e =
+    let l : length w ≡ length a + length key = ap length e ∙ length-append a key in
+    let m : length a ≡ length w - length key = omega arith in
+    ap (λ (x : Word). same x key) (ap (drop (length w - length key)) e ∙ drop-at a key (length w - length key) m) ∙ same-refl key

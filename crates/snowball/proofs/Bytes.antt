@@ -11,13 +11,12 @@ use borrow.Author.Tests.{leb-true, leb-false, le-leb, lt-leb}
 use Rattle.definition.specs.Words.{Word, pick, same, beginsWith, endsWith}
 use Rattle.definition.specs.Tables.{Row, Table}
 use Rattle.definition.specs.Search.{rowAt, longer, longest}
-use Rattle.definition.proofs.Match.{by, same-eq, begins-split, ends-split}
+use Rattle.definition.proofs.Match.{by, same-eq, begins-split, begins-of, ends-split, ends-of}
 use Rattle.definition.proofs.Found.{Found, longest-found, no-letters}
-use Rattle.definition.proofs.Cover.{ends-of}
 use Rattle.utf8.specs.Utf8.{Scalars, encode}
 use Rattle.utf8.specs.Places.{size}
 use Rattle.utf8.proofs.Places.{size-append, size-mono, size-strict}
-use Rattle.utf8.proofs.Matches.{iff, begins-of, front-bytes, end-bytes}
+use Rattle.utf8.proofs.Matches.{iff, front-bytes, end-bytes}
 use Rattle.snowball.specs.Rows.{byteRow, byteTable}
 
 -- ---- of two keys at one place the longer in letters is the longer in bytes

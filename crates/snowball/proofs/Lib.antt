@@ -1,3 +1,4 @@
+pub mod Main
 pub mod Order
 pub mod Table
 pub mod Halving
@@ -6,3 +7,10 @@ pub mod Read
 pub mod Longest
 pub mod Bytes
 pub mod Answers
+pub mod Owned
+pub mod Copy
+pub mod Cut
+pub mod Places
+pub mod Match
+pub mod Standing
+pub mod Slicing

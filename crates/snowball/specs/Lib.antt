@@ -1,2 +1,7 @@
 pub mod Rows
 pub mod Search
+pub mod Cut
+pub mod Match
+pub mod Chars
+pub mod Stands
+pub mod Bytes

@@ -4,16 +4,10 @@ use mathlib.Core.Bool.{Bool, true, false}
 use mathlib.Core.List.{List, [], _∷_, _++_, append-nil}
 use Prim.Native.Nat.{ℕ, _-_}
 use lib.ListN.{length, take, drop}
-use lib.Seq.{take-append-seam}
-use Rattle.definition.specs.Words.{Word, same, beginsWith, endsWith}
-use Rattle.definition.proofs.Match.{same-refl, begins-split, ends-split}
-use Rattle.definition.proofs.Cover.{ends-of}
+use Rattle.definition.specs.Words.{Word, beginsWith, endsWith}
+use Rattle.definition.proofs.Match.{begins-split, begins-of, ends-split, ends-of}
 use Rattle.utf8.specs.Utf8.{Scalars, encode}
 use Rattle.utf8.proofs.Text.{encode-append, match-front, match-back}
-
-pub begins-of : (w key r : Word) → w ≡ key ++ r → beginsWith w key ≡ true
-unfolding beginsWith
-begins-of w key r e = ap (λ (x : Word). same x key) (ap (take (length key)) e ∙ take-append-seam key r) ∙ same-refl key
 
 -- two tests that imply one another are equal
 pub iff : (a b : Bool) → (a ≡ true → b ≡ true) → (b ≡ true → a ≡ true) → a ≡ b

@@ -1,5 +1,4 @@
 ghost use mathlib.Core.Path.{_≡_};
-
 ghost use Rattle.definition.specs.Words.{pick};
 ghost use Rattle.utf8.specs.Utf8.{first, wellFormed};
 ghost use Rattle.utf8.specs.Reading.{forget, nextOf, isWhole};

@@ -1,0 +1,17 @@
+use mathlib.Core.Path.{refl}
+use native.Mathlib.Omega.{arith}
+use borrow.Author.Needs.{needs}
+use Rattle.snowball.proofs.Standing.{next-stands}
+use Rattle.snowball.proofs.env.Env.next_char.Statement.{statement}
+use Rattle.snowball.proofs.env.Env.next_char.Tie as tie
+
+next-start-requires : tie.Need-next-start-requires
+next-start-requires c κs = search needs
+
+returns : tie.Need-returns
+returns c =
+    let x = c .before .before .before .before .args .t1 in
+    (record { bra = refl; ket = refl }, λ s st. next-stands x s st (c .next-start .result) (omega arith) (c .next-start .ensures))
+
+pub next-char-spec : {M : Type 1} → statement M
+next-char-spec = tie.close (tie.spec next-start-requires returns)
