@@ -5,6 +5,7 @@ pub mod Match
 pub mod Found
 pub mod Unique
 pub mod Triples
+pub mod Tried
 pub mod Cutting
 pub mod Cover
 pub mod Step1a

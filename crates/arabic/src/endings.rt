@@ -1,0 +1,88 @@
+use snowball::among::find_among_b;
+use snowball::env::Env;
+use snowball::env::count_chars;
+ghost use mathlib.Core.Path.{_≡_};
+ghost use mathlib.Core.Bool.{true};
+ghost use mathlib.Core.List.{List};
+ghost use Prim.Native.Nat.{ℕ, _≤_};
+ghost use lib.ListN.{length, take};
+ghost use lib.Dec.{T};
+ghost use Rattle.definition.specs.Words.{Word};
+ghost use Rattle.definition.specs.Search.{guard};
+ghost use Rattle.definition.specs.Endings.{SuffixStep, suffix, Cutting, cut};
+ghost use Rattle.utf8.specs.Utf8.{Scalars, encode};
+ghost use Rattle.snowball.specs.Rows.{keysBack, wellFormed, rowsOf, byteTable, plain};
+ghost use Rattle.arabic.specs.Endings.{Ends, Ready, Gives, endingAt};
+
+// The environment after a step, and whether the step succeeded.
+pub struct Tried {
+    pub found: bool,
+    pub env: Env,
+}
+
+fn wide(x: u8) -> usize
+    ensures { λ r. ⌜ r ≡ x ⌝ }
+{
+    x as usize
+}
+
+// The least number of letters for a class, from class 1 on; 0 for a class that has none.
+pub fn least_letters(guards: &[u8], class: u8) -> usize
+    ensures { λ r. ⌜ r ≡ guard (now (guards .entry)) class ⌝ }
+{
+    if class == 0 {
+        return 0;
+    }
+    let k = wide(class - 1);
+    if k >= guards.len() {
+        return 0;
+    }
+    wide(guards[k])
+}
+
+// Where the ending begins that a step with this table and these guards takes from the text; the text's end where it takes none.
+pub fn ending(
+    text: &[u8],
+    limit: usize,
+    rows: &[[u8; 6]],
+    lens: &[u8],
+    links: &[u8],
+    classes: &[u8],
+    guards: &[u8],
+) -> usize
+    requires { ⌜ limit ≤ length (now text) ⌝ }
+    requires { ⌜ T (wellFormed (keysBack (now rows) (now lens)) (now lens) (now links)) × (length (now classes) ≡ length (now rows)) ⌝ }
+    ensures { λ r. ⌜ r ≤ limit ⌝ }
+    ensures { λ r. ⌜ ((s : SuffixStep) → rowsOf (now (rows .entry)) (now (lens .entry)) (now (classes .entry)) ≡ byteTable (suffix s .table)
+        → plain (suffix s .table) ≡ true → now (guards .entry) ≡ suffix s .guards
+        → (w : Word) → Scalars w → take limit (now (text .entry)) ≡ encode w → r ≡ endingAt s w limit) ⌝ }
+{
+    let f = find_among_b(text, limit, 0, rows, lens, links, classes);
+    let class = f.class;
+    if class == 0 {
+        return limit;
+    }
+    let letters = count_chars(text, limit);
+    if letters < least_letters(guards, class) {
+        return limit;
+    }
+    f.cursor
+}
+
+// Deletes the ending that begins at the place, if there is one; otherwise the step fails and leaves the environment as it was.
+pub fn cut_ending(env: Env, place: usize) -> Tried
+    requires { ⌜ Ready env × (place ≤ env .limit) ⌝ }
+    ensures { λ r. ⌜ ((s : SuffixStep) (v : Cutting) → Ends env v → place ≡ endingAt s (v .text) (env .limit) → Gives r (cut s v)) ⌝ }
+{
+    if place == env.limit {
+        return Tried { found: false, env };
+    }
+    let mut e = env;
+    e.ket = e.cursor;
+    e.bra = place;
+    let d = e.slice_del();
+    Tried {
+        found: true,
+        env: d,
+    }
+}

@@ -1,0 +1,3 @@
+pub mod endings;
+pub mod suffixes;
+pub mod tables;
