@@ -1,1 +1,3 @@
 pub mod Ending
+pub mod Nest
+pub mod Repeat

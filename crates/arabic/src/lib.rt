@@ -1,3 +1,4 @@
 pub mod endings;
 pub mod suffixes;
 pub mod tables;
+pub mod verb;

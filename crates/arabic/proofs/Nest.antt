@@ -1,0 +1,46 @@
+-- The laws of a branch in a nest of alternatives, whatever an environment stands for. Assumes nothing.
+use mathlib.Core.Path.{_≡_, refl, sym, _∙_}
+use mathlib.Core.Bool.{Bool, true, false, false≢true}
+use mathlib.Core.List.{[], _∷_}
+use lib.ListN.{length}
+use Rattle.definition.specs.Tries.{Try, done, failed, Step, after, isDone, andThen, orElse, nothing, _thenTry_, firstOf, again}
+use Rattle.definition.specs.Endings.{Cutting, cut, verbStep1, verbStep2a, verbStep2b, verbStep2c, verb}
+use Rattle.definition.proofs.Tried.{first-from}
+use Rattle.snowball.specs.declared.env.Env.{Env}
+use Rattle.arabic.specs.declared.endings.Tried.{Tried}
+use Rattle.arabic.specs.Tried.{Answers}
+use Rattle.arabic.specs.Endings.{Ready, Given}
+use Rattle.arabic.specs.Nests.{afterStep1}
+
+pub ready : (t : Tried) → Given t → Ready (t .env)
+ready t g = (after (g .0), g .1 .env)
+
+module _ {A : Type 0} {S : Env → A → Type 0} (t : Tried) where
+  pub or-yes : (g : Step A) → t .found ≡ true → (y : Try A) → Answers S t y → Answers S t (orElse y g)
+  or-yes g e (done a) h = h
+  or-yes g e (failed a) h = absurd (false≢true (sym (h .found) ∙ e))
+
+  pub or-no : (r : Tried) (g : Step A) → t .found ≡ false → ((v : A) → S (t .env) v → Answers S r (g v)) → (y : Try A) → Answers S t y → Answers S r (orElse y g)
+  or-no r g e k (done a) h = absurd (false≢true (sym e ∙ h .found))
+  or-no r g e k (failed a) h = k a (h .env)
+
+  pub then-yes : (r : Tried) (g : Step A) → t .found ≡ true → (y : Try A) → Answers S t y → ((v : A) → v ≡ after y → S (t .env) v → Answers S r (g v)) → Answers S r (andThen y g)
+  then-yes r g e (done a) h k = k a refl (h .env)
+  then-yes r g e (failed a) h k = absurd (false≢true (sym (h .found) ∙ e))
+
+  pub then-no : (g : Step A) → t .found ≡ false → (y : Try A) → Answers S t y → Answers S t (andThen y g)
+  then-no g e (done a) h = absurd (false≢true (sym e ∙ h .found))
+  then-no g e (failed a) h = h
+
+  pub or-nothing : (y : Try A) → Answers S t y → Answers S (record { found = true; env = t .env }) (orElse y nothing)
+  or-nothing (done a) h = record { found = refl; env = h .env }
+  or-nothing (failed a) h = record { found = refl; env = h .env }
+
+-- ---- the verb, as straight-line code tries it
+pub after-step1-is : (v : Cutting) → orElse (orElse (cut verbStep2a v) (cut verbStep2c)) nothing ≡ afterStep1 v
+unfolding afterStep1
+after-step1-is v = sym (first-from (cut verbStep2a) (cut verbStep2c ∷ nothing ∷ []) v)
+
+pub verb-is : (v : Cutting) → orElse (orElse (andThen (andThen (cut verbStep1 v) (again (length (v .text)) (cut verbStep1))) afterStep1) (cut verbStep2b)) (cut verbStep2a) ≡ verb v
+unfolding verb afterStep1 _thenTry_
+verb-is v = sym (first-from (cut verbStep1 thenTry again (length (v .text)) (cut verbStep1) thenTry afterStep1) (cut verbStep2b ∷ cut verbStep2a ∷ []) v)
