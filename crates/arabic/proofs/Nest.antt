@@ -1,16 +1,17 @@
 -- The laws of a branch in a nest of alternatives, whatever an environment stands for. Assumes nothing.
-use mathlib.Core.Path.{_≡_, refl, sym, _∙_}
+use mathlib.Core.Path.{_≡_, refl, sym, ap, _∙_}
 use mathlib.Core.Bool.{Bool, true, false, false≢true}
 use mathlib.Core.List.{[], _∷_}
 use lib.ListN.{length}
 use Rattle.definition.specs.Tries.{Try, done, failed, Step, after, isDone, andThen, orElse, nothing, _thenTry_, firstOf, again}
-use Rattle.definition.specs.Endings.{Cutting, cut, verbStep1, verbStep2a, verbStep2b, verbStep2c, verb}
+use Rattle.definition.specs.Endings.{Cutting, cut, verbStep1, verbStep2a, verbStep2b, verbStep2c, nounStep1a, nounStep1b, nounStep2a, nounStep2b, nounStep2c1, nounStep2c2, nounStep3, verb, noun}
+use Rattle.definition.specs.Kind.{Kind, OPEN, DEFINED, ifOpen}
 use Rattle.definition.proofs.Tried.{first-from}
 use Rattle.snowball.specs.declared.env.Env.{Env}
 use Rattle.arabic.specs.declared.endings.Tried.{Tried}
 use Rattle.arabic.specs.Tried.{Answers}
 use Rattle.arabic.specs.Endings.{Ready, Given}
-use Rattle.arabic.specs.Nests.{afterStep1}
+use Rattle.arabic.specs.Nests.{afterStep1, afterStep1a, afterStep1b, byStep1a, byStep1b}
 
 pub ready : (t : Tried) → Given t → Ready (t .env)
 ready t g = (after (g .0), g .1 .env)
@@ -44,3 +45,32 @@ after-step1-is v = sym (first-from (cut verbStep2a) (cut verbStep2c ∷ nothing 
 pub verb-is : (v : Cutting) → orElse (orElse (andThen (andThen (cut verbStep1 v) (again (length (v .text)) (cut verbStep1))) afterStep1) (cut verbStep2b)) (cut verbStep2a) ≡ verb v
 unfolding verb afterStep1 _thenTry_
 verb-is v = sym (first-from (cut verbStep1 thenTry again (length (v .text)) (cut verbStep1) thenTry afterStep1) (cut verbStep2b ∷ cut verbStep2a ∷ []) v)
+
+-- ---- the noun
+pub after-step1b-is : (v : Cutting) → orElse (orElse (cut nounStep2a v) (cut nounStep2b)) (cut nounStep2c1) ≡ afterStep1b v
+unfolding afterStep1b
+after-step1b-is v = sym (first-from (cut nounStep2a) (cut nounStep2b ∷ cut nounStep2c1 ∷ []) v)
+
+pub after-step1a-is : (v : Cutting) → orElse (orElse (orElse (cut nounStep2a v) (cut nounStep2b)) (cut nounStep2c1)) nothing ≡ afterStep1a v
+unfolding afterStep1a
+after-step1a-is v = sym (first-from (cut nounStep2a) (cut nounStep2b ∷ cut nounStep2c1 ∷ nothing ∷ []) v)
+
+pub by-step1a-is : (v : Cutting) → andThen (cut nounStep1a v) afterStep1a ≡ byStep1a OPEN v
+unfolding byStep1a _thenTry_
+by-step1a-is v = refl
+
+pub by-step1b-is : (v : Cutting) → andThen (cut nounStep1b v) afterStep1b ≡ byStep1b v
+unfolding byStep1b _thenTry_
+by-step1b-is v = refl
+
+pub noun-is : (k : Kind) (v : Cutting)
+    → andThen (orElse (orElse (orElse (orElse (orElse (cut nounStep2c2 v) (byStep1a k)) byStep1b) (ifOpen k (cut nounStep2a))) (cut nounStep2b)) nothing) (cut nounStep3) ≡ noun k v
+unfolding noun byStep1a byStep1b afterStep1a afterStep1b _thenTry_
+noun-is k v =
+    ap (λ (t : Try Cutting). andThen t (cut nounStep3))
+    (sym (first-from (cut nounStep2c2) (byStep1a k ∷ byStep1b ∷ ifOpen k (cut nounStep2a) ∷ cut nounStep2b ∷ nothing ∷ []) v))
+
+-- a step that is not for this word
+pub not-open : {S : Env → Cutting → Type 0} (t : Tried) (f : Step Cutting) → t .found ≡ false → (y : Try Cutting) → Answers S t y → Answers S t (orElse y (ifOpen DEFINED f))
+not-open t f e (done a) h = absurd (false≢true (sym e ∙ h .found))
+not-open t f e (failed a) h = h

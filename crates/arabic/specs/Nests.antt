@@ -1,8 +1,29 @@
--- Parts of item 3's alternatives that have functions of their own.
+-- Parts of item 3's alternatives that have functions of their own, and the kind as the code holds it.
+use mathlib.Core.Bool.{Bool, true, false}
 use mathlib.Core.List.{[], _∷_}
-use Rattle.definition.specs.Tries.{Step, nothing, firstOf}
-use Rattle.definition.specs.Endings.{Cutting, cut, verbStep2a, verbStep2c}
+use Rattle.definition.specs.Tries.{Step, nothing, _thenTry_, firstOf}
+use Rattle.definition.specs.Kind.{Kind, OPEN, DEFINED, ifOpen}
+use Rattle.definition.specs.Endings.{Cutting, cut, verbStep2a, verbStep2c, nounStep1a, nounStep1b, nounStep2a, nounStep2b, nounStep2c1}
+
+-- the kind by the Rust's b_is_defined
+abbrev pub kindOf : Bool → Kind
+kindOf true = DEFINED
+kindOf false = OPEN
 
 -- what follows the cuts of the verb's Step1
 unfoldable pub afterStep1 : Step Cutting
 afterStep1 = firstOf (cut verbStep2a ∷ cut verbStep2c ∷ nothing ∷ [])
+
+-- what follows the noun's Step1a, and its Step1b
+unfoldable pub afterStep1a : Step Cutting
+afterStep1a = firstOf (cut nounStep2a ∷ cut nounStep2b ∷ cut nounStep2c1 ∷ nothing ∷ [])
+
+unfoldable pub afterStep1b : Step Cutting
+afterStep1b = firstOf (cut nounStep2a ∷ cut nounStep2b ∷ cut nounStep2c1 ∷ [])
+
+-- the two alternatives with a sequel
+unfoldable pub byStep1a : Kind → Step Cutting
+byStep1a k = ifOpen k (cut nounStep1a thenTry afterStep1a)
+
+unfoldable pub byStep1b : Step Cutting
+byStep1b = cut nounStep1b thenTry afterStep1b

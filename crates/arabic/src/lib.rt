@@ -1,4 +1,5 @@
 pub mod endings;
+pub mod noun;
 pub mod suffixes;
 pub mod tables;
 pub mod verb;

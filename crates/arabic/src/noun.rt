@@ -1,0 +1,176 @@
+use crate::endings::Tried;
+use crate::suffixes::r_Suffix_Noun_Step1a;
+use crate::suffixes::r_Suffix_Noun_Step1b;
+use crate::suffixes::r_Suffix_Noun_Step2a;
+use crate::suffixes::r_Suffix_Noun_Step2b;
+use crate::suffixes::r_Suffix_Noun_Step2c1;
+use crate::suffixes::r_Suffix_Noun_Step2c2;
+use crate::suffixes::r_Suffix_Noun_Step3;
+use crate::verb::or_nothing;
+use snowball::env::Env;
+ghost use Rattle.definition.specs.Tries.{Try, orElse, andThen};
+ghost use Rattle.definition.specs.Kind.{ifOpen};
+ghost use Rattle.definition.specs.Endings.{Cutting, cut, nounStep1a, nounStep1b, nounStep2a, nounStep2b, nounStep2c1, nounStep2c2, nounStep3, noun};
+ghost use Rattle.arabic.specs.Endings.{Ends, Ready, Gives, Given};
+ghost use Rattle.arabic.specs.Nests.{kindOf, afterStep1a, afterStep1b, byStep1a, byStep1b};
+
+// The noun's alternative of `stem`: one function for each of its nested alternatives.
+
+fn or_Step2a(t: Tried) -> Tried
+    requires { ⌜ Given t ⌝ }
+    ensures { λ r. ⌜ ((y : Try Cutting) → Gives t y → Gives r (orElse y (cut nounStep2a))) ⌝ }
+{
+    if t.found {
+        return t;
+    }
+    let x = t.env;
+    r_Suffix_Noun_Step2a(x)
+}
+
+fn or_Step2b(t: Tried) -> Tried
+    requires { ⌜ Given t ⌝ }
+    ensures { λ r. ⌜ ((y : Try Cutting) → Gives t y → Gives r (orElse y (cut nounStep2b))) ⌝ }
+{
+    if t.found {
+        return t;
+    }
+    let x = t.env;
+    r_Suffix_Noun_Step2b(x)
+}
+
+fn or_Step2c1(t: Tried) -> Tried
+    requires { ⌜ Given t ⌝ }
+    ensures { λ r. ⌜ ((y : Try Cutting) → Gives t y → Gives r (orElse y (cut nounStep2c1))) ⌝ }
+{
+    if t.found {
+        return t;
+    }
+    let x = t.env;
+    r_Suffix_Noun_Step2c1(x)
+}
+
+// Behind Step1b: Step2a, else Step2b, else Step2c1.
+fn after_Step1b(env: Env) -> Tried
+    requires { ⌜ Ready env ⌝ }
+    ensures { λ r. ⌜ ((v : Cutting) → Ends env v → Gives r (afterStep1b v)) ⌝ }
+{
+    let a = r_Suffix_Noun_Step2a(env);
+    let b = or_Step2b(a);
+    or_Step2c1(b)
+}
+
+// Behind Step1a: the same, else nothing.
+fn after_Step1a(env: Env) -> Tried
+    requires { ⌜ Ready env ⌝ }
+    ensures { λ r. ⌜ ((v : Cutting) → Ends env v → Gives r (afterStep1a v)) ⌝ }
+{
+    let a = r_Suffix_Noun_Step2a(env);
+    let b = or_Step2b(a);
+    let c = or_Step2c1(b);
+    or_nothing(c)
+}
+
+fn then_after_Step1a(t: Tried) -> Tried
+    requires { ⌜ Given t ⌝ }
+    ensures { λ r. ⌜ ((y : Try Cutting) → Gives t y → Gives r (andThen y afterStep1a)) ⌝ }
+{
+    if t.found {
+        let x = t.env;
+        return after_Step1a(x);
+    }
+    t
+}
+
+fn then_after_Step1b(t: Tried) -> Tried
+    requires { ⌜ Given t ⌝ }
+    ensures { λ r. ⌜ ((y : Try Cutting) → Gives t y → Gives r (andThen y afterStep1b)) ⌝ }
+{
+    if t.found {
+        let x = t.env;
+        return after_Step1b(x);
+    }
+    t
+}
+
+// If the word is open, Step1a and what follows it.
+fn by_Step1a(env: Env, b_is_defined: bool) -> Tried
+    requires { ⌜ Ready env ⌝ }
+    ensures { λ r. ⌜ ((v : Cutting) → Ends env v → Gives r (byStep1a (kindOf «b_is_defined») v)) ⌝ }
+{
+    if b_is_defined {
+        return Tried { found: false, env };
+    }
+    let a = r_Suffix_Noun_Step1a(env);
+    then_after_Step1a(a)
+}
+
+fn or_by_Step1a(t: Tried, b_is_defined: bool) -> Tried
+    requires { ⌜ Given t ⌝ }
+    ensures { λ r. ⌜ ((y : Try Cutting) → Gives t y → Gives r (orElse y (byStep1a (kindOf «b_is_defined»)))) ⌝ }
+{
+    if t.found {
+        return t;
+    }
+    let x = t.env;
+    by_Step1a(x, b_is_defined)
+}
+
+// Step1b and what follows it. Where that fails the cut of Step1b stays.
+fn by_Step1b(env: Env) -> Tried
+    requires { ⌜ Ready env ⌝ }
+    ensures { λ r. ⌜ ((v : Cutting) → Ends env v → Gives r (byStep1b v)) ⌝ }
+{
+    let a = r_Suffix_Noun_Step1b(env);
+    then_after_Step1b(a)
+}
+
+fn or_by_Step1b(t: Tried) -> Tried
+    requires { ⌜ Given t ⌝ }
+    ensures { λ r. ⌜ ((y : Try Cutting) → Gives t y → Gives r (orElse y byStep1b)) ⌝ }
+{
+    if t.found {
+        return t;
+    }
+    let x = t.env;
+    by_Step1b(x)
+}
+
+// If the word is open, Step2a.
+fn or_open_Step2a(t: Tried, b_is_defined: bool) -> Tried
+    requires { ⌜ Given t ⌝ }
+    ensures { λ r. ⌜ ((y : Try Cutting) → Gives t y → Gives r (orElse y (ifOpen (kindOf «b_is_defined») (cut nounStep2a)))) ⌝ }
+{
+    if t.found {
+        return t;
+    }
+    if b_is_defined {
+        return t;
+    }
+    let x = t.env;
+    r_Suffix_Noun_Step2a(x)
+}
+
+fn then_Step3(t: Tried) -> Tried
+    requires { ⌜ Given t ⌝ }
+    ensures { λ r. ⌜ ((y : Try Cutting) → Gives t y → Gives r (andThen y (cut nounStep3))) ⌝ }
+{
+    if t.found {
+        let x = t.env;
+        return r_Suffix_Noun_Step3(x);
+    }
+    t
+}
+
+// The noun.
+pub fn noun(env: Env, b_is_defined: bool) -> Tried
+    requires { ⌜ Ready env ⌝ }
+    ensures { λ r. ⌜ ((v : Cutting) → Ends env v → Gives r (noun (kindOf «b_is_defined») v)) ⌝ }
+{
+    let a = r_Suffix_Noun_Step2c2(env);
+    let b = or_by_Step1a(a, b_is_defined);
+    let c = or_by_Step1b(b);
+    let d = or_open_Step2a(c, b_is_defined);
+    let e = or_Step2b(d);
+    let f = or_nothing(e);
+    then_Step3(f)
+}
