@@ -44,12 +44,12 @@ guard-beyond g (suc c) k h e l = go g c (omega arith)
     go (x ∷ g) zero l = absurd (omega arith)
     go (x ∷ g) (suc k) l = go g k (omega arith)
 
-met-is : (g : List ℕ) (c n : ℕ) → (c ≡ 0 → ⊥) → met g c n ≡ leb (guard g c) n
+pub met-is : (g : List ℕ) (c n : ℕ) → (c ≡ 0 → ⊥) → met g c n ≡ leb (guard g c) n
 unfolding met
 met-is g zero n h = absurd (h refl)
 met-is g (suc c) n h = refl
 
-met-zero : (g : List ℕ) (c n : ℕ) → c ≡ 0 → met g c n ≡ false
+pub met-zero : (g : List ℕ) (c n : ℕ) → c ≡ 0 → met g c n ≡ false
 unfolding met
 met-zero g zero n h = refl
 met-zero g (suc c) n h = absurd (omega arith)

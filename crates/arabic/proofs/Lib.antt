@@ -1,3 +1,4 @@
 pub mod Ending
+pub mod Fronted
 pub mod Nest
 pub mod Repeat

@@ -1,3 +1,4 @@
 pub mod Tried
 pub mod Endings
 pub mod Nests
+pub mod Fronts

@@ -20,7 +20,7 @@ pub struct Tried {
     pub env: Env,
 }
 
-fn wide(x: u8) -> usize
+pub fn wide(x: u8) -> usize
     ensures { λ r. ⌜ r ≡ x ⌝ }
 {
     x as usize

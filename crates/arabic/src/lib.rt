@@ -1,4 +1,5 @@
 pub mod endings;
+pub mod front;
 pub mod noun;
 pub mod suffixes;
 pub mod tables;

@@ -211,7 +211,7 @@ module _ (ws : List (List ℕ)) (ns cs : List ℕ) (z : Sized ws ns) (e : length
         ∙ ap length (byte-row t r) ∙ ap (λ (i : ℕ). size (rowAt t i .letters)) same-row
 
 -- ---- letters below D800 are scalar values
-low-scalars : (w : Word) → low w ≡ true → Scalars w
+pub low-scalars : (w : Word) → low w ≡ true → Scalars w
 low-scalars [] e = tt
 low-scalars (c ∷ w) e = (inl (let h = leb-true c 0xD7FF (both-0 (leb c 0xD7FF) (low w) e) in omega arith), low-scalars w (both-1 (leb c 0xD7FF) (low w) e))
 
