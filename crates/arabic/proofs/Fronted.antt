@@ -181,6 +181,13 @@ module _ (x : Env) (w : Fronting) (st : Fronts x w) where
       not-there : (r : Word) → length r ≡ 0 → beginsWith r (c ∷ cs) ≡ false
       not-there r e = by (beginsWith r (c ∷ cs)) (λ h. absurd (omega (arith, ap length (begins-split r (c ∷ cs) h), length-append (c ∷ cs) (drop (length (c ∷ cs)) r)))) (λ h. h)
 
+-- ---- the texts at which a step fails
+pub any-here : (w k : Word) (ks : List Word) → beginsWith w k ≡ true → beginsWithAny w (k ∷ ks) ≡ true
+any-here w k ks h = ap (λ (b : Bool). pick b true (beginsWithAny w ks)) h
+
+pub any-next : (w k : Word) (ks : List Word) → beginsWith w k ≡ false → beginsWithAny w (k ∷ ks) ≡ beginsWithAny w ks
+any-next w k ks h = ap (λ (b : Bool). pick b true (beginsWithAny w ks)) h
+
 -- ---- the replacement
 module _ (s : PrefixStep) (w : Fronting) (x : Env) (st : Fronts x w) (f : Found) (tk : Takes s (text w) (w .rest) (x .cursor) f) where
   abbrev search : Option ℕ
