@@ -1,4 +1,15 @@
+pub mod Main
 pub mod Ending
 pub mod Fronted
 pub mod Nest
 pub mod Repeat
+pub mod Reading
+pub mod Stores
+pub mod Table
+pub mod Halving
+pub mod Gives
+pub mod Ahead
+pub mod Normalising
+pub mod Changes
+pub mod Finishing
+pub mod Standing

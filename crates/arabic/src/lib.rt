@@ -1,5 +1,7 @@
+pub mod a_0;
 pub mod endings;
 pub mod front;
+pub mod normalize;
 pub mod noun;
 pub mod prefixes;
 pub mod suffixes;

@@ -1,0 +1,128 @@
+-- The letter loop of item 5, in place and on plain values. Assumes nothing.
+use mathlib.Core.Path.{_≡_, refl, sym, ap, _∙_}
+use mathlib.Core.List.{List, [], _∷_, _++_, append-assoc, append-nil}
+use Prim.Native.Nat.{ℕ, _+_, _≤_, _<_}
+use native.Mathlib.Omega.{arith}
+use lib.Dec.{eqb}
+use lib.ListN.{length, take, drop}
+use borrow.Author.Tests.{eq-eqb, ne-eqb}
+use Rattle.utf8.specs.Utf8.{encode1, encode}
+use Rattle.utf8.proofs.Text.{encode1-pos, encode-injective}
+use Rattle.definition.specs.Words.{Word}
+use Rattle.definition.specs.Finish.{finish}
+use Rattle.arabic.specs.Bytes.{Encodes, SomeLetter, Read, Wrote}
+use Rattle.arabic.specs.declared.normalize.Letter.{Letter}
+use Rattle.arabic.specs.Texts.{changed, Finished}
+use Rattle.arabic.proofs.Changes.{changed-size, changed-top}
+use Rattle.arabic.proofs.Ahead as ahead
+use Rattle.arabic.proofs.Ahead.{Ahead, Next, cons-size}
+
+-- The loop's invariant: word is the whole of the old text, rest the letters from i on, and the bytes before i are those of the letters before.
+-- The turns that are left are enough for rest.
+pub record Inv (old : List ℕ) (limit turns : ℕ) (text : List ℕ) (i turn : ℕ) : Type 0 where
+  pub word : Word
+  pub whole : Encodes (take limit old) word
+  pub rest : Word
+  pub to : Ahead text i limit (drop limit old) rest
+  pub bytes : take i text ++ encode (finish rest) ≡ encode (finish word)
+  pub enough : turn + length rest ≤ turns
+  pub size : length text ≡ 340
+
+pub start : (text : List ℕ) (limit turns : ℕ) (cs : Word) → limit ≤ 340 → length text ≡ 340 → Encodes (take limit text) cs → length cs ≤ turns
+    → Inv text limit turns text 0 0
+start text limit turns cs h z e l =
+    record {
+      word = cs;
+      whole = e;
+      rest = cs;
+      to = ahead.start text limit cs (omega arith) e;
+      bytes = refl;
+      enough = omega arith;
+      size = z;
+    }
+
+-- a letter is the last where the text ends behind it
+finish-step : (c : ℕ) (t : Word) (j limit : ℕ) → j + length (encode t) ≡ limit
+    → encode (finish (c ∷ t)) ≡ encode1 (changed (eqb j limit) c) ++ encode (finish t)
+unfolding finish encode
+finish-step c [] j limit e = rw (eq-eqb j limit (omega arith)) refl
+finish-step c (d ∷ t) j limit e = rw (ne-eqb j limit (λ (q : j ≡ limit). omega (arith, cons-size d t, encode1-pos d))) refl
+
+no-letter : (w : Word) → length w ≤ 0 → w ≡ []
+no-letter [] h = refl
+no-letter (c ∷ w) h = absurd (omega arith)
+
+module _ {old : List ℕ} {limit turns : ℕ} {text : List ℕ} {i k : ℕ} (v : Inv old limit turns text i k) where
+  next : i < limit → Next text i limit (drop limit old) (v .rest)
+  next h = ahead.next text i limit (drop limit old) (v .rest) (v .to) h
+
+  pub letter : i < limit → SomeLetter text i
+  letter h = ahead.letter text i limit (drop limit old) (v .rest) (next h)
+
+  -- one turn: the letter l is read at i, and c is what it becomes
+  module _ (h : i < limit) (l : Letter) (f : Read text i l) where
+    n : Next text i limit (drop limit old) (v .rest)
+    n = next h
+
+    is : (l .code ≡ n .c) × (l .width ≡ length (encode1 (n .c)))
+    is = f (n .c) (encode (n .t) ++ drop limit old) (n .at)
+
+    pub moves : i + l .width ≤ limit
+    moves = omega (arith, is .1, n .ends)
+
+    module _ (c : ℕ) (e : c ≡ changed (eqb (i + l .width) limit) (l .code)) where
+      is-changed : c ≡ changed (eqb (i + l .width) limit) (n .c)
+      is-changed = e ∙ ap (changed (eqb (i + l .width) limit)) (is .0)
+
+      same-size : length (encode1 c) ≡ l .width
+      same-size = ap (λ (x : ℕ). length (encode1 x)) is-changed ∙ changed-size (eqb (i + l .width) limit) (n .c) ∙ sym (is .1)
+
+      pub room : i + length (encode1 c) ≤ limit
+      room = omega (arith, same-size, moves)
+
+      pub code-top : c < 0x110000
+      code-top = omega (arith, is-changed, changed-top (eqb (i + l .width) limit) (n .c) (n .at .0))
+
+      rest-bytes : encode (finish (v .rest)) ≡ encode1 c ++ encode (finish (n .t))
+      rest-bytes =
+          ap (λ (x : Word). encode (finish x)) (n .is)
+          ∙ finish-step (n .c) (n .t) (i + l .width) limit (omega (arith, is .1, n .ends))
+          ∙ ap (λ (x : ℕ). encode1 x ++ encode (finish (n .t))) (sym is-changed)
+
+      pub turn : (r : ℕ) (new : List ℕ) → Wrote text i (encode1 c) new r → Inv old limit turns new (i + l .width) (k + 1)
+      turn r new u =
+          let z : r ≡ i + l .width = omega (arith, u .end, same-size) in
+          record {
+            word = v .word;
+            whole = v .whole;
+            rest = n .t;
+            to =
+                ahead.past text i limit (drop limit old) (v .rest) n new (i + l .width) (ap (λ (x : ℕ). i + x) (is .1))
+                (ap (λ (j : ℕ). drop j new) (sym z) ∙ u .rest ∙ ap (λ (j : ℕ). drop j text) z);
+            bytes =
+                ap (λ (j : ℕ). take j new ++ encode (finish (n .t))) (sym z)
+                ∙ ap (λ (x : List ℕ). x ++ encode (finish (n .t))) (u .bytes)
+                ∙ append-assoc (take i text) (encode1 c) (encode (finish (n .t)))
+                ∙ ap (λ (x : List ℕ). take i text ++ x) (sym rest-bytes)
+                ∙ v .bytes;
+            enough = omega (arith, v .enough, ap length (n .is));
+            size = u .size ∙ v .size;
+          }
+
+  all-read : v .rest ≡ [] → (cs : Word) → Encodes (take limit old) cs → Finished cs text limit
+  unfolding finish encode
+  all-read z cs e =
+      let w : v .word ≡ cs = encode-injective (v .word) cs (v .whole .0) (e .0) (sym (v .whole .1) ∙ e .1) in
+      let q : i ≡ limit = omega (arith, v .to .ends, ap (λ (x : Word). length (encode x)) z) in
+      ap (λ (j : ℕ). take j text) (sym q)
+      ∙ sym (append-nil (take i text))
+      ∙ ap (λ (x : Word). take i text ++ encode (finish x)) (sym z)
+      ∙ v .bytes
+      ∙ ap (λ (x : Word). encode (finish x)) w
+
+  -- the loop ends at the limit, or after the last turn
+  pub at-limit : limit ≤ i → (cs : Word) → Encodes (take limit old) cs → Finished cs text limit
+  at-limit h = all-read (ahead.none-left text i limit (drop limit old) (v .rest) (v .to) h)
+
+  pub after-turns : turns ≤ k → (cs : Word) → Encodes (take limit old) cs → Finished cs text limit
+  after-turns h = all-read (no-letter (v .rest) (omega (arith, v .enough)))

@@ -1,0 +1,119 @@
+-- What a class of A_0 gives, read off the number that holds its letters. Assumes nothing.
+use mathlib.Core.Path.{_≡_, refl, sym, ap, _∙_}
+use mathlib.Core.Bool.{Bool, true}
+use mathlib.Core.Logic.{inl}
+use mathlib.Core.List.{List, [], _∷_, _++_}
+use Prim.Native.Nat.{ℕ, zero, suc, _+_, _/_, _%_, _≤_, _<_}
+use native.Mathlib.Omega.{arith}
+use lib.Dec.{eqb, ltb}
+use lib.ListN.{getD}
+use borrow.Author.Tests.{ltb-true, ne-eqb, lt-ltb, le-ltb}
+use Rattle.utf8.specs.Utf8.{Scalar, Scalars, encode1, encode}
+use Rattle.utf8.proofs.Text.{encode-one, encode-append, scalars-append}
+use Rattle.definition.specs.Words.{Word, both, same}
+use Rattle.definition.specs.Tables.{Row, Table}
+use Rattle.definition.specs.Normal.{gives, listedFor, given, normal, normalise}
+use Rattle.definition.proofs.Match.{both-0, both-1, by, same-eq}
+use Rattle.definition.proofs.Found.{all}
+use Rattle.arabic.specs.Rows.{classOf, packed, unpacked, givenFrom, packedGives}
+use Rattle.arabic.proofs.Table.{kept, normal-class}
+
+-- a property of no letters and of every row's letters is one of what is listed for a class
+listed : (P : Word → Type 0) (p : Row → Bool) → P [] → ((r : Row) → p r ≡ true → P (r .letters))
+    → (t : Table) → all p t ≡ true → (k : ℕ) → P (listedFor t k)
+unfolding listedFor
+listed P p n f [] e k = n
+listed P p n f (r ∷ t) e k =
+    by (eqb (r .class) k) (λ b. rw b (f r (both-0 (p r) (all p t) e))) (λ b. rw b (listed P p n f t (both-1 (p r) (all p t) e) k))
+
+-- ---- packing keeps the letters
+
+abbrev keeps : Row → Bool
+keeps r = same (unpacked (packed (r .letters))) (r .letters)
+
+all-keep : all keeps gives ≡ true
+unfolding gives same
+all-keep = refl
+
+unpacked-listed : (k : ℕ) → unpacked (packed (listedFor gives k)) ≡ listedFor gives k
+unpacked-listed k = listed (λ w. unpacked (packed w) ≡ w) keeps refl (λ r e. same-eq (unpacked (packed (r .letters))) (r .letters) e) gives all-keep k
+
+given-at : (n k j : ℕ) → j < n → getD (givenFrom n k) j 0 ≡ packed (listedFor gives (k + j))
+given-at zero k j h = absurd (omega arith)
+given-at (suc n) k zero h = let e : k ≡ k + 0 = omega arith in ap (λ (i : ℕ). packed (listedFor gives i)) e
+given-at (suc n) k (suc j) h =
+    let e : suc k + j ≡ k + suc j = omega arith in
+    given-at n (suc k) j (omega arith) ∙ ap (λ (i : ℕ). packed (listedFor gives i)) e
+
+unpacked-at : (k : ℕ) → k < 56 → unpacked (getD packedGives k 0) ≡ listedFor gives k
+unfolding packedGives
+unpacked-at k h = let e : 0 + k ≡ k = omega arith in ap unpacked (given-at 56 0 k h) ∙ unpacked-listed (0 + k) ∙ ap (listedFor gives) e
+
+-- ---- the bytes of what a class gives
+
+given-listed : (c k : ℕ) → (k ≡ 0 → ⊥) → given c k ≡ listedFor gives k
+unfolding given
+given-listed c zero h = absurd (h refl)
+given-listed c (suc k) h = refl
+
+pub give-kept : (c k : ℕ) → k ≡ 0 → encode (given c k) ≡ encode1 c
+give-kept c k e = rw e (ap encode (kept c) ∙ encode-one c)
+
+no-bytes : encode [] ≡ []
+unfolding encode
+no-bytes = refl
+
+two-bytes : (x y : ℕ) → encode (x ∷ y ∷ []) ≡ encode1 x ++ encode1 y
+two-bytes x y = encode-append (x ∷ []) (y ∷ []) ∙ rw (encode-one x, encode-one y)
+
+all-short : all (λ (r : Row). ltb (packed (r .letters)) 0x10000000) gives ≡ true
+unfolding gives
+all-short = refl
+
+module _ (c k : ℕ) (vs : List ℕ) (e : vs ≡ packedGives) (l : k < 56) (h : k ≡ 0 → ⊥) where
+  by-number : encode (given c k) ≡ encode (unpacked (getD vs k 0))
+  by-number = ap encode (given-listed c k h ∙ sym (unpacked-at k l)) ∙ ap (λ (l : List ℕ). encode (unpacked (getD l k 0))) (sym e)
+
+  pub give-none : getD vs k 0 ≡ 0 → encode (given c k) ≡ []
+  give-none z = by-number ∙ rw z no-bytes
+
+  pub give-one : (getD vs k 0 ≡ 0 → ⊥) → getD vs k 0 < 65536 → encode (given c k) ≡ encode1 (getD vs k 0)
+  give-one z s = by-number ∙ rw (ne-eqb (getD vs k 0) 0 z, lt-ltb (getD vs k 0) 65536 s) (encode-one (getD vs k 0))
+
+  pub give-two : 65536 ≤ getD vs k 0 → encode (given c k) ≡ encode1 (getD vs k 0 % 65536) ++ encode1 (getD vs k 0 / 65536)
+  give-two s =
+      by-number
+      ∙ rw (ne-eqb (getD vs k 0) 0 (λ (z : getD vs k 0 ≡ 0). omega arith), le-ltb (getD vs k 0) 65536 s)
+      (two-bytes (getD vs k 0 % 65536) (getD vs k 0 / 65536))
+
+  pub give-small : getD vs k 0 < 0x10000000
+  unfolding packedGives
+  give-small =
+      let s : packed (listedFor gives (0 + k)) < 0x10000000 =
+      listed (λ w. packed w < 0x10000000) (λ (r : Row). ltb (packed (r .letters)) 0x10000000)
+      (omega arith) (λ r. ltb-true (packed (r .letters)) 0x10000000) gives all-short (0 + k) in
+      omega (arith, ap (λ (l : List ℕ). getD l k 0) e, given-at 56 0 k l)
+
+-- ---- what is given are scalar values
+
+abbrev low : Word → Bool
+low [] = true
+low (c ∷ w) = both (ltb c 0xD800) (low w)
+
+low-scalars : (w : Word) → low w ≡ true → Scalars w
+low-scalars [] e = tt
+low-scalars (c ∷ w) e = (inl (ltb-true c 0xD800 (both-0 (ltb c 0xD800) (low w) e)), low-scalars w (both-1 (ltb c 0xD800) (low w) e))
+
+all-low : all (λ (r : Row). low (r .letters)) gives ≡ true
+unfolding gives
+all-low = refl
+
+given-scalars : (c k : ℕ) → Scalar c → Scalars (given c k)
+unfolding given
+given-scalars c zero s = (s, tt)
+given-scalars c (suc k) s = listed Scalars (λ (r : Row). low (r .letters)) tt (λ r e. low-scalars (r .letters) e) gives all-low (suc k)
+
+pub normalise-scalars : (w : Word) → Scalars w → Scalars (normalise w)
+unfolding normalise
+normalise-scalars [] s = tt
+normalise-scalars (c ∷ w) s = scalars-append (normal c) (normalise w) (rw (normal-class c) (given-scalars c (classOf c) (s .0))) (normalise-scalars w (s .1))

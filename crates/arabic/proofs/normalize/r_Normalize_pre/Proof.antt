@@ -1,0 +1,23 @@
+-- `r_Normalize_pre`: the new array holds the word normalised. Assumes nothing.
+use mathlib.Core.Path.{_≡_, refl}
+use native.Mathlib.Omega.{arith}
+use lib.ListN.{length}
+use Rattle.snowball.proofs.Owned.{owned-length}
+use Rattle.arabic.proofs.Standing.{encoded, normalised}
+use Rattle.arabic.proofs.normalize.r_Normalize_pre.Statement.{statement}
+use Rattle.arabic.proofs.normalize.r_Normalize_pre.Tie as tie
+
+normalize-text-requires : tie.Need-normalize-text-requires
+normalize-text-requires c κs =
+    let a = c .before .before .before .before in
+    let x = a .args .t1 in
+    let h = a .pre .0 in
+    let n : length (x .current) ≡ 340 = owned-length x _ (a .good .0) in
+    (((h .0 .text, encoded (h .1)), omega arith), (a .pre .1, refl))
+
+returns : tie.Need-returns
+returns c =
+    λ w s. normalised w s (c .normalize-text .last .1 .1 .0) (c .normalize-text .result) (c .normalize-text .ensures w (encoded s))
+
+pub r-Normalize-pre-spec : {M : Type 1} → statement M
+r-Normalize-pre-spec = tie.close (tie.spec normalize-text-requires returns)

@@ -1,0 +1,287 @@
+use crate::a_0::A_0_CLASSES;
+use crate::a_0::A_0_GIVES;
+use crate::a_0::A_0_KEYS;
+use snowball::env::Env;
+ghost use mathlib.Core.Path.{_≡_};
+ghost use Prim.Native.Nat.{_+_, _-_, _*_, _/_, _%_, _<_, _≤_};
+ghost use lib.ListN.{length, take};
+ghost use Rattle.definition.specs.Words.{Word};
+ghost use Rattle.definition.specs.Normal.{given, normalise};
+ghost use Rattle.definition.specs.Finish.{last, other, finish};
+ghost use Rattle.utf8.specs.Utf8.{encode1, encode};
+ghost use Rattle.snowball.specs.Chars.{Chars, started};
+ghost use Rattle.snowball.specs.Stands.{Stands, Holds};
+ghost use Rattle.arabic.specs.Bytes.{Encodes, SomeLetter, Read, Wrote};
+ghost use Rattle.arabic.specs.Rows.{keys, rowOf, packedGives};
+ghost use Rattle.arabic.specs.Texts.{Normalised, Finished, changed};
+
+// A letter as a number, and how many bytes it has.
+struct Letter {
+    code: u32,
+    width: usize,
+}
+
+fn wide(b: u8) -> u32
+    ensures { λ r. ⌜ r ≡ b ⌝ }
+{
+    b as u32
+}
+
+fn index(b: u8) -> usize
+    ensures { λ r. ⌜ r ≡ b ⌝ }
+{
+    b as usize
+}
+
+// The six bits of a byte behind a letter's first.
+fn bits(b: u8) -> u32
+    requires { ⌜ 0x80 ≤ b ⌝ }
+    ensures { λ r. ⌜ r ≡ b - 0x80 ⌝ }
+{
+    wide(b) - 0x80
+}
+
+// The letter of two bytes.
+fn two(a: u8, b: u8) -> u32
+    requires { ⌜ (0xC0 ≤ a) × (0x80 ≤ b) ⌝ }
+    ensures { λ r. ⌜ r ≡ (a - 0xC0) * 64 + (b - 0x80) ⌝ }
+{
+    (wide(a) - 0xC0) * 64 + bits(b)
+}
+
+// The letter of three bytes.
+fn three(a: u8, b: u8, c: u8) -> u32
+    requires { ⌜ (0xE0 ≤ a) × (0x80 ≤ b) × (0x80 ≤ c) ⌝ }
+    ensures { λ r. ⌜ r ≡ ((a - 0xE0) * 64 + (b - 0x80)) * 64 + (c - 0x80) ⌝ }
+{
+    ((wide(a) - 0xE0) * 64 + bits(b)) * 64 + bits(c)
+}
+
+// The letter of four bytes.
+fn four(a: u8, b: u8, c: u8, d: u8) -> u32
+    requires { ⌜ (0xF0 ≤ a) × (0x80 ≤ b) × (0x80 ≤ c) × (0x80 ≤ d) ⌝ }
+    ensures { λ r. ⌜ r ≡ (((a - 0xF0) * 64 + (b - 0x80)) * 64 + (c - 0x80)) * 64 + (d - 0x80) ⌝ }
+{
+    (((wide(a) - 0xF0) * 64 + bits(b)) * 64 + bits(c)) * 64 + bits(d)
+}
+
+// The letter that starts at the cursor.
+fn read_letter(text: &[u8], cursor: usize) -> Letter
+    requires { ⌜ SomeLetter (now text) cursor ⌝ }
+    ensures { λ r. ⌜ Read (now (text .entry)) cursor r ⌝ }
+{
+    let a = text[cursor];
+    if a < 0x80 {
+        return Letter {
+            code: wide(a),
+            width: 1,
+        };
+    }
+    let b = text[cursor + 1];
+    if a < 0xE0 {
+        return Letter {
+            code: two(a, b),
+            width: 2,
+        };
+    }
+    let c = text[cursor + 2];
+    if a < 0xF0 {
+        return Letter {
+            code: three(a, b, c),
+            width: 3,
+        };
+    }
+    let d = text[cursor + 3];
+    Letter {
+        code: four(a, b, c, d),
+        width: 4,
+    }
+}
+
+// A letter's first byte: the mark of its length, and its highest bits.
+fn lead(mark: u32, high: u32) -> u8
+    requires { ⌜ mark + high < 256 ⌝ }
+    ensures { λ r. ⌜ r ≡ mark + high ⌝ }
+{
+    (mark + high) as u8
+}
+
+// A byte behind a letter's first, with six bits of it.
+fn trail(x: u32) -> u8
+    ensures { λ r. ⌜ r ≡ 0x80 + x % 64 ⌝ }
+{
+    (0x80 + x % 64) as u8
+}
+
+// Writes the letter c into out from the byte at on. The answer is the place behind it.
+fn put_letter(out: &mut [u8; 340], at: usize, c: u32) -> usize
+    requires { ⌜ (at + length (encode1 c) ≤ 340) × (c < 0x110000) × (length (now out) ≡ 340) ⌝ }
+    ensures { λ r. ⌜ Wrote (now (out .entry)) at (encode1 c) (now (out .exit)) r ⌝ }
+{
+    if c < 0x80 {
+        out[at] = lead(0, c);
+        return at + 1;
+    }
+    if c < 0x800 {
+        out[at] = lead(0xC0, c / 64);
+        out[at + 1] = trail(c);
+        return at + 2;
+    }
+    if c < 0x10000 {
+        out[at] = lead(0xE0, c / 4096);
+        out[at + 1] = trail(c / 64);
+        out[at + 2] = trail(c);
+        return at + 3;
+    }
+    out[at] = lead(0xF0, c / 262144);
+    out[at + 1] = trail(c / 4096);
+    out[at + 2] = trail(c / 64);
+    out[at + 3] = trail(c);
+    at + 4
+}
+
+// The row of A_0 whose letter is c, and 161 where there is none.
+fn row_of(rows: &[u32; 161], c: u32) -> usize
+    requires { ⌜ now rows ≡ keys ⌝ }
+    ensures { λ r. ⌜ r ≡ rowOf c ⌝ }
+{
+    let mut lo = 0;
+    let mut hi = 161;
+    while lo < hi {
+        let mid = lo + (hi - lo) / 2;
+        if rows[mid] < c {
+            lo = mid + 1;
+        } else {
+            hi = mid;
+        }
+    }
+    if lo < 161 {
+        if rows[lo] == c {
+            return lo;
+        }
+    }
+    161
+}
+
+// Writes what stands for the letter c, whose row has this class; with class 0, for no row, c itself. The answer is the place
+// behind it.
+fn give(gives: &[u32; 56], class: usize, c: u32, out: &mut [u8; 340], at: usize) -> usize
+    requires { ⌜ (now gives ≡ packedGives) × (class < 56) × (c < 0x110000) ⌝ }
+    requires { ⌜ (at + length (encode (given c class)) ≤ 340) × (length (now out) ≡ 340) ⌝ }
+    ensures { λ r. ⌜ Wrote (now (out .entry)) at (encode (given c class)) (now (out .exit)) r ⌝ }
+{
+    if class == 0 {
+        return put_letter(out, at, c);
+    }
+    let v = gives[class];
+    if v == 0 {
+        return at;
+    }
+    if v < 65536 {
+        return put_letter(out, at, v);
+    }
+    let k = put_letter(out, at, v % 65536);
+    put_letter(out, k, v / 65536)
+}
+
+// The loop of r_Normalize_pre, from the first limit bytes of text into out. The answer is the number of bytes written. The
+// Rust replaces each letter within the text, which moves all that is behind it.
+fn normalize_text(text: &[u8], limit: usize, out: &mut [u8; 340]) -> usize
+    requires { ⌜ ((cs : Word) × Encodes (take limit (now text)) cs) × (limit ≤ length (now text)) ⌝ }
+    requires { ⌜ (limit ≤ 255) × (length (now out) ≡ 340) ⌝ }
+    ensures { λ r. ⌜ ((cs : Word) → Encodes (take limit (now (text .entry))) cs → Normalised cs (now (out .exit)) r) ⌝ }
+{
+    let rows = A_0_KEYS;
+    let classes = A_0_CLASSES;
+    let gives = A_0_GIVES;
+    let mut cursor = 0;
+    let mut end = 0;
+    while cursor < limit {
+        let letter = read_letter(text, cursor);
+        let row = row_of(&rows, letter.code);
+        let class = index(classes[row]);
+        end = give(&gives, class, letter.code, out, end);
+        cursor += letter.width;
+    }
+    end
+}
+
+// The Rust's r_Normalize_pre, for a word of up to 255 bytes: each letter is deleted, replaced or kept. The Rust leaves the
+// cursor at the end and its caller sets it back; here it stays in front, and bra and ket are those of a new environment.
+// The Rust's answer, which is always true, is left out.
+pub fn r_Normalize_pre(env: Env) -> Env
+    requires { ⌜ Holds env × (env .limit ≤ 255) ⌝ }
+    ensures { λ r. ⌜ ((w : Word) → Stands env (started w) → Stands r (started (normalise w))) ⌝ }
+{
+    let limit = env.limit;
+    let mut text = [0u8; 340];
+    let end = normalize_text(&env.current, limit, &mut text);
+    Env {
+        cursor: 0,
+        limit: end,
+        limit_backward: 0,
+        bra: 0,
+        ket: end,
+        current: text,
+    }
+}
+
+// What r_Normalize_post makes of a last letter. The Rust searches A_1.
+fn last_of(c: u32) -> u32
+    ensures { λ r. ⌜ r ≡ last c ⌝ }
+{
+    match c {
+        0x622..=0x626 => 0x621,
+        _ => c,
+    }
+}
+
+// What r_Normalize_post makes of any other letter. The Rust searches A_2.
+fn other_of(c: u32) -> u32
+    ensures { λ r. ⌜ r ≡ other c ⌝ }
+{
+    match c {
+        0x622 | 0x623 | 0x625 => 0x627,
+        0x624 => 0x648,
+        0x626 => 0x64A,
+        _ => c,
+    }
+}
+
+// What r_Normalize_post makes of a letter.
+fn changed_of(c: u32, ending: bool) -> u32
+    ensures { λ r. ⌜ r ≡ changed ending c ⌝ }
+{
+    if ending { last_of(c) } else { other_of(c) }
+}
+
+// The loop of r_Normalize_post over the first limit bytes of text, in place: no letter changes its length.
+fn finish_text(text: &mut [u8; 340], limit: usize, i_word_len: usize)
+    requires { ⌜ ((cs : Word) × Encodes (take limit (now text)) cs × (length cs ≤ «i_word_len»)) ⌝ }
+    requires { ⌜ (limit ≤ 340) × (length (now text) ≡ 340) ⌝ }
+    ensures { λ _. ⌜ ((cs : Word) → Encodes (take limit (now (text .entry))) cs → Finished cs (now (text .exit)) limit) ⌝ }
+{
+    let mut cursor = 0;
+    for _ in 0..i_word_len {
+        if cursor >= limit {
+            return;
+        }
+        let letter = read_letter(text, cursor);
+        let end = cursor + letter.width;
+        let c = changed_of(letter.code, end == limit);
+        put_letter(text, cursor, c);
+        cursor = end;
+    }
+}
+
+// The Rust's r_Normalize_post, for a text of up to i_word_len letters. The Rust first changes the last letter by a search in
+// A_1, and then makes at most i_word_len turns over the letters, each with a search in A_2. Here one pass of at most as many
+// turns does both, and letters are compared by their numbers. The Rust's answer, which is always true, is left out.
+pub fn r_Normalize_post(mut env: Env, i_word_len: usize) -> Env
+    requires { ⌜ ((s : Chars) × Stands env s × (length (s .text) ≤ «i_word_len»)) ⌝ }
+    ensures { λ r. ⌜ ((w : Word) → Stands env (started w) → Stands r (started (finish w))) ⌝ }
+{
+    let limit = env.limit;
+    finish_text(&mut env.current, limit, i_word_len);
+    env
+}
