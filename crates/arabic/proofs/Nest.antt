@@ -3,15 +3,19 @@ use mathlib.Core.Path.{_≡_, refl, sym, ap, _∙_}
 use mathlib.Core.Bool.{Bool, true, false, false≢true}
 use mathlib.Core.List.{[], _∷_}
 use lib.ListN.{length}
-use Rattle.definition.specs.Tries.{Try, done, failed, Step, after, isDone, andThen, orElse, nothing, _thenTry_, firstOf, again}
-use Rattle.definition.specs.Endings.{Cutting, cut, verbStep1, verbStep2a, verbStep2b, verbStep2c, nounStep1a, nounStep1b, nounStep2a, nounStep2b, nounStep2c1, nounStep2c2, nounStep3, verb, noun}
+use Rattle.definition.specs.Tries.{Try, done, failed, Step, after, isDone, andThen, orElse, nothing, _thenTry_, firstOf, attempt, again}
+use Rattle.definition.specs.Endings.{Cutting, cut, verbStep1, verbStep2a, verbStep2b, verbStep2c, nounStep1a, nounStep1b, nounStep2a, nounStep2b, nounStep2c1, nounStep2c2, nounStep3, verb, noun, endings, suffixAllAlefMaqsura, maqsuraIfFailed}
+use Rattle.definition.specs.Words.{Word}
+use Rattle.definition.specs.Fronts.{Fronting, prefixStep1, prefixStep2, prefixStep3aNoun, prefixStep3bNoun, prefixStep3Verb, prefixStep4Verb, apply, prefixSteps}
 use Rattle.definition.specs.Kind.{Kind, OPEN, DEFINED, ifOpen}
 use Rattle.definition.proofs.Tried.{first-from}
 use Rattle.snowball.specs.declared.env.Env.{Env}
+use Rattle.snowball.specs.Stands.{Stands}
 use Rattle.arabic.specs.declared.endings.Tried.{Tried}
 use Rattle.arabic.specs.Tried.{Answers}
-use Rattle.arabic.specs.Endings.{Ready, Given}
-use Rattle.arabic.specs.Nests.{afterStep1, afterStep1a, afterStep1b, byStep1a, byStep1b}
+use Rattle.arabic.specs.Endings.{atEnd, Ready, Gives, Given}
+use Rattle.arabic.specs.Fronts.{ReadyFront, GivenFront}
+use Rattle.arabic.specs.Nests.{afterStep1, afterStep1a, afterStep1b, byStep1a, byStep1b, verbSteps, uncut}
 
 pub ready : (t : Tried) → Given t → Ready (t .env)
 ready t g = (after (g .0), g .1 .env)
@@ -71,6 +75,35 @@ noun-is k v =
     (sym (first-from (cut nounStep2c2) (byStep1a k ∷ byStep1b ∷ ifOpen k (cut nounStep2a) ∷ cut nounStep2b ∷ nothing ∷ []) v))
 
 -- a step that is not for this word
-pub not-open : {S : Env → Cutting → Type 0} (t : Tried) (f : Step Cutting) → t .found ≡ false → (y : Try Cutting) → Answers S t y → Answers S t (orElse y (ifOpen DEFINED f))
+pub not-open : {A : Type 0} {S : Env → A → Type 0} (t : Tried) (f : Step A) → t .found ≡ false → (y : Try A) → Answers S t y → Answers S t (orElse y (ifOpen DEFINED f))
 not-open t f e (done a) h = absurd (false≢true (sym e ∙ h .found))
 not-open t f e (failed a) h = h
+
+-- ---- item 3
+pub endings-is : (k : Kind) (w : Word) → orElse (ifOpen k verb (uncut w)) (noun k) ≡ endings k w
+unfolding endings
+endings-is k w = sym (first-from (ifOpen k verb) (noun k ∷ []) (uncut w))
+
+pub maqsura-done : (t : Tried) (y : Try Cutting) → Gives t y → t .found ≡ true → Stands (t .env) (atEnd (maqsuraIfFailed y (after y .text)))
+unfolding maqsuraIfFailed
+maqsura-done t (done v) g e = g .env
+maqsura-done t (failed v) g e = absurd (false≢true (sym (g .found) ∙ e))
+
+pub maqsura-failed : (t : Tried) (r : Env) (y : Try Cutting) → Gives t y → t .found ≡ false
+    → ((w : Word) → Stands (t .env) (atEnd w) → Stands r (atEnd (suffixAllAlefMaqsura w))) → Stands r (atEnd (maqsuraIfFailed y (after y .text)))
+unfolding maqsuraIfFailed
+maqsura-failed t r (done v) g e f = absurd (false≢true (sym e ∙ g .found))
+maqsura-failed t r (failed v) g e f = f (v .text) (g .env)
+
+-- ---- item 4
+pub ready-front : (t : Tried) → GivenFront t → ReadyFront (t .env)
+ready-front t g = (after (g .0), g .1 .env)
+
+pub verb-steps-is : (w : Fronting) → apply prefixStep4Verb (after (apply prefixStep3Verb w)) ≡ verbSteps w
+unfolding verbSteps attempt _thenTry_
+verb-steps-is w = refl
+
+pub prefix-steps-is : (k : Kind) (w : Fronting)
+    → orElse (orElse (apply prefixStep3aNoun (after (apply prefixStep2 (after (apply prefixStep1 w))))) (apply prefixStep3bNoun)) (ifOpen k verbSteps) ≡ prefixSteps k w
+unfolding prefixSteps verbSteps attempt _thenTry_
+prefix-steps-is k w = sym (first-from (apply prefixStep3aNoun) (apply prefixStep3bNoun ∷ ifOpen k verbSteps ∷ []) (after (apply prefixStep2 (after (apply prefixStep1 w)))))

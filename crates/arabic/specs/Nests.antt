@@ -1,8 +1,10 @@
--- Parts of item 3's alternatives that have functions of their own, and the kind as the code holds it.
+-- Parts of items 3 and 4 that have functions of their own, and the kind as the code holds it.
 use mathlib.Core.Bool.{Bool, true, false}
 use mathlib.Core.List.{[], _∷_}
-use Rattle.definition.specs.Tries.{Step, nothing, _thenTry_, firstOf}
+use Rattle.definition.specs.Tries.{Step, nothing, _thenTry_, firstOf, attempt}
 use Rattle.definition.specs.Kind.{Kind, OPEN, DEFINED, ifOpen}
+use Rattle.definition.specs.Words.{Word}
+use Rattle.definition.specs.Fronts.{Fronting, prefixStep3Verb, prefixStep4Verb, apply}
 use Rattle.definition.specs.Endings.{Cutting, cut, verbStep2a, verbStep2c, nounStep1a, nounStep1b, nounStep2a, nounStep2b, nounStep2c1}
 
 -- the kind by the Rust's b_is_defined
@@ -27,3 +29,11 @@ byStep1a k = ifOpen k (cut nounStep1a thenTry afterStep1a)
 
 unfoldable pub byStep1b : Step Cutting
 byStep1b = cut nounStep1b thenTry afterStep1b
+
+-- the verb's part of item 4
+unfoldable pub verbSteps : Step Fronting
+verbSteps = attempt (apply prefixStep3Verb) thenTry apply prefixStep4Verb
+
+-- the start of item 3
+abbrev pub uncut : Word → Cutting
+uncut w = record { text = w; cuts = [] }

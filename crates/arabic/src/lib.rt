@@ -1,9 +1,12 @@
 pub mod a_0;
 pub mod endings;
 pub mod front;
+pub mod fronts;
+pub mod maqsura;
 pub mod normalize;
 pub mod noun;
 pub mod prefixes;
+pub mod suffix_steps;
 pub mod suffixes;
 pub mod tables;
 pub mod verb;
