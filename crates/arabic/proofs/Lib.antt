@@ -1,6 +1,7 @@
 pub mod Main
 pub mod Ending
 pub mod Fronted
+pub mod Items
 pub mod LastLetter
 pub mod Nest
 pub mod Repeat

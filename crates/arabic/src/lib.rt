@@ -6,6 +6,7 @@ pub mod maqsura;
 pub mod normalize;
 pub mod noun;
 pub mod prefixes;
+pub mod stem;
 pub mod suffix_steps;
 pub mod suffixes;
 pub mod tables;

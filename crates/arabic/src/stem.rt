@@ -1,0 +1,64 @@
+use crate::fronts::prefix_steps;
+use crate::normalize::r_Normalize_post;
+use crate::normalize::r_Normalize_pre;
+use crate::suffix_steps::suffix_steps;
+use snowball::env::Env;
+use snowball::env::count_chars;
+ghost use Prim.Native.Nat.{_≤_};
+ghost use Rattle.definition.specs.Words.{Word};
+ghost use Rattle.definition.specs.Tries.{after};
+ghost use Rattle.definition.specs.Normal.{normalise};
+ghost use Rattle.definition.specs.Endings.{endings, maqsuraIfFailed};
+ghost use Rattle.definition.specs.Fronts.{text, fronts};
+ghost use Rattle.definition.specs.Finish.{finish};
+ghost use Rattle.definition.specs.Stem.{stemOf};
+ghost use Rattle.snowball.specs.Chars.{started};
+ghost use Rattle.snowball.specs.Stands.{Stands};
+ghost use Rattle.arabic.specs.Nests.{kindOf};
+
+// Item 3: the endings, backward from the end of the text. The cursor then goes back to the front.
+fn cut_endings(env: Env, b_is_defined: bool) -> Env
+    requires { ⌜ ((w : Word) × Stands env (started w)) ⌝ }
+    ensures { λ r. ⌜ ((w : Word) → Stands env (started w)
+        → Stands r (started (maqsuraIfFailed (endings (kindOf «b_is_defined») w) (after (endings (kindOf «b_is_defined») w) .text)))) ⌝ }
+{
+    let mut e = env;
+    e.limit_backward = e.cursor;
+    e.cursor = e.limit;
+    let mut x = suffix_steps(e, b_is_defined);
+    x.cursor = x.limit_backward;
+    x
+}
+
+// Item 4: the fronts. The cursor then goes back to the front.
+fn change_front(env: Env, b_is_defined: bool) -> Env
+    requires { ⌜ ((w : Word) × Stands env (started w)) ⌝ }
+    ensures { λ r. ⌜ ((w : Word) → Stands env (started w) → Stands r (started (text (fronts (kindOf «b_is_defined») w)))) ⌝ }
+{
+    let cursor = env.cursor;
+    let t = prefix_steps(env, b_is_defined);
+    let mut x = t.env;
+    x.cursor = cursor;
+    x
+}
+
+// Item 5, with as many turns as the text has letters.
+fn finish_letters(env: Env) -> Env
+    requires { ⌜ ((w : Word) × Stands env (started w)) ⌝ }
+    ensures { λ r. ⌜ ((w : Word) → Stands env (started w) → Stands r (started (finish w))) ⌝ }
+{
+    let limit = env.limit;
+    let i_word_len = count_chars(&env.current, limit);
+    r_Normalize_post(env, i_word_len)
+}
+
+// Items 2 to 5, for a word of up to 255 bytes whose kind is known.
+fn stem_of(env: Env, b_is_defined: bool) -> Env
+    requires { ⌜ ((w : Word) × Stands env (started w)) × (env .limit ≤ 255) ⌝ }
+    ensures { λ r. ⌜ ((w : Word) → Stands env (started w) → Stands r (started (stemOf (kindOf «b_is_defined») (normalise w)))) ⌝ }
+{
+    let n = r_Normalize_pre(env);
+    let s = cut_endings(n, b_is_defined);
+    let p = change_front(s, b_is_defined);
+    finish_letters(p)
+}
