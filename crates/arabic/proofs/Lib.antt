@@ -15,3 +15,5 @@ pub mod Normalising
 pub mod Changes
 pub mod Finishing
 pub mod Standing
+pub mod Checking
+pub mod Lending

@@ -5,3 +5,5 @@ pub mod Fronts
 pub mod Bytes
 pub mod Rows
 pub mod Texts
+pub mod Kinds
+pub mod Contexts

@@ -1,7 +1,9 @@
 pub mod a_0;
+pub mod context;
 pub mod endings;
 pub mod front;
 pub mod fronts;
+pub mod kind;
 pub mod maqsura;
 pub mod normalize;
 pub mod noun;

@@ -168,7 +168,7 @@ pub fn r_Prefix_Step3_Verb(env: Env) -> Tried
     )
 }
 
-pub fn r_Prefix_Step4_Verb(env: Env) -> Tried
+pub fn covered_Prefix_Step4_Verb(env: Env) -> Tried
     requires { ⌜ ReadyFront env ⌝ }
     ensures { λ r. ⌜ ((w : Fronting) → Fronts env w → GivesFront r (apply prefixStep4Verb w)) ⌝ }
 {

@@ -1,9 +1,12 @@
+use crate::context::Context;
+use crate::context::checked;
 use crate::fronts::prefix_steps;
 use crate::normalize::r_Normalize_post;
 use crate::normalize::r_Normalize_pre;
 use crate::suffix_steps::suffix_steps;
 use snowball::env::Env;
 use snowball::env::count_chars;
+ghost use mathlib.Core.Path.{_≡_};
 ghost use Prim.Native.Nat.{_≤_};
 ghost use Rattle.definition.specs.Words.{Word};
 ghost use Rattle.definition.specs.Tries.{after};
@@ -11,7 +14,8 @@ ghost use Rattle.definition.specs.Normal.{normalise};
 ghost use Rattle.definition.specs.Endings.{endings, maqsuraIfFailed};
 ghost use Rattle.definition.specs.Fronts.{text, fronts};
 ghost use Rattle.definition.specs.Finish.{finish};
-ghost use Rattle.definition.specs.Stem.{stemOf};
+ghost use Rattle.definition.specs.Kind.{kind};
+ghost use Rattle.definition.specs.Stem.{stemOf, stem};
 ghost use Rattle.snowball.specs.Chars.{started};
 ghost use Rattle.snowball.specs.Stands.{Stands};
 ghost use Rattle.arabic.specs.Nests.{kindOf};
@@ -31,12 +35,12 @@ fn cut_endings(env: Env, b_is_defined: bool) -> Env
 }
 
 // Item 4: the fronts. The cursor then goes back to the front.
-fn change_front(env: Env, b_is_defined: bool) -> Env
+fn change_front(env: Env, context: Context) -> Env
     requires { ⌜ ((w : Word) × Stands env (started w)) ⌝ }
-    ensures { λ r. ⌜ ((w : Word) → Stands env (started w) → Stands r (started (text (fronts (kindOf «b_is_defined») w)))) ⌝ }
+    ensures { λ r. ⌜ ((w : Word) → Stands env (started w) → Stands r (started (text (fronts (kindOf (context .«b_is_defined»)) w)))) ⌝ }
 {
     let cursor = env.cursor;
-    let t = prefix_steps(env, b_is_defined);
+    let t = prefix_steps(env, context);
     let mut x = t.env;
     x.cursor = cursor;
     x
@@ -53,12 +57,31 @@ fn finish_letters(env: Env) -> Env
 }
 
 // Items 2 to 5, for a word of up to 255 bytes whose kind is known.
-fn stem_of(env: Env, b_is_defined: bool) -> Env
+fn stem_of(env: Env, context: Context) -> Env
     requires { ⌜ ((w : Word) × Stands env (started w)) × (env .limit ≤ 255) ⌝ }
-    ensures { λ r. ⌜ ((w : Word) → Stands env (started w) → Stands r (started (stemOf (kindOf «b_is_defined») (normalise w)))) ⌝ }
+    ensures { λ r. ⌜ ((w : Word) → Stands env (started w) → Stands r (started (stemOf (kindOf (context .«b_is_defined»)) (normalise w)))) ⌝ }
 {
     let n = r_Normalize_pre(env);
+    let b_is_defined = context.b_is_defined;
     let s = cut_endings(n, b_is_defined);
-    let p = change_front(s, b_is_defined);
+    let p = change_front(s, context);
     finish_letters(p)
+}
+
+// The stem of the word, and whether the word is defined.
+pub struct Stemmed {
+    pub defined: bool,
+    pub env: Env,
+}
+
+// The Rust's stem, on a new environment for a word of up to 255 bytes.
+pub fn stem(env: Env) -> Stemmed
+    requires { ⌜ ((w : Word) × Stands env (started w)) × (env .limit ≤ 255) ⌝ }
+    ensures { λ r. ⌜ ((w : Word) → Stands env (started w) → (kindOf (r .defined) ≡ kind w) × Stands (r .env) (started (stem w))) ⌝ }
+{
+    let limit = env.limit;
+    let context = checked(&env.current, limit);
+    let defined = context.b_is_defined;
+    let e = stem_of(env, context);
+    Stemmed { defined, env: e }
 }

@@ -10,7 +10,7 @@ use Rattle.arabic.proofs.fronts.or_open_verb_steps.Statement.{statement
 use Rattle.arabic.proofs.fronts.or_open_verb_steps.Tie as tie
 
 returns : tie.Need-returns
-returns c = let a = c .before .args in or-yes (a .t) (ifOpen (kindOf (a .b-is-defined)) verbSteps) (c .if1 .taken)
+returns c = let a = c .before .args in or-yes (a .t) (ifOpen (kindOf (a .context .«b_is_defined»)) verbSteps) (c .if1 .taken)
 
 returns-2 : tie.Need-returns-2
 returns-2 c =

@@ -38,7 +38,7 @@ or-open-verb-steps-requires c κs = let p = c .before .before .before .before .b
 
 returns : tie.Need-returns
 returns c =
-    λ w st. subst (GivesFront (c .or-open-verb-steps .result)) (prefix-steps-is (kindOf (c .before .before .before .before .before .before .before .args .b-is-defined)) (started w)) (c .or-open-verb-steps .ensures _ (d (c .before) w st))
+    λ w st. subst (GivesFront (c .or-open-verb-steps .result)) (prefix-steps-is (kindOf (c .before .before .before .before .before .before .before .args .context .«b_is_defined»)) (started w)) (c .or-open-verb-steps .ensures _ (d (c .before) w st))
 
 pub prefix-steps-spec : {M : Type 1} → statement M
 prefix-steps-spec = tie.close (tie.spec r-Prefix-Step1-requires r-Prefix-Step2-requires r-Prefix-Step3a-Noun-requires or-Step3b-Noun-requires or-open-verb-steps-requires returns)

@@ -9,12 +9,12 @@ use Rattle.arabic.proofs.fronts.verb_steps.Tie as tie
 r-Prefix-Step3-Verb-requires : tie.Need-r-Prefix-Step3-Verb-requires
 r-Prefix-Step3-Verb-requires c κs = search needs
 
-r-Prefix-Step4-Verb-requires : tie.Need-r-Prefix-Step4-Verb-requires
-r-Prefix-Step4-Verb-requires c κs = let p = c .before .before .pre in ready-front (c .before .r-Prefix-Step3-Verb .result) (_, c .before .r-Prefix-Step3-Verb .ensures (p .0) (p .1))
+step4-verb-requires : tie.Need-step4-verb-requires
+step4-verb-requires c κs = let p = c .before .before .pre in ready-front (c .before .r-Prefix-Step3-Verb .result) (_, c .before .r-Prefix-Step3-Verb .ensures (p .0) (p .1))
 
 returns : tie.Need-returns
 returns c =
-    λ w st. subst (GivesFront (c .r-Prefix-Step4-Verb .result)) (verb-steps-is w) (c .r-Prefix-Step4-Verb .ensures _ (c .before .before .r-Prefix-Step3-Verb .ensures w st .env))
+    λ w st. subst (GivesFront (c .before .step4-verb .result .tried)) (verb-steps-is w) (c .before .step4-verb .ensures .0 _ (c .before .before .before .r-Prefix-Step3-Verb .ensures w st .env))
 
 pub verb-steps-spec : {M : Type 1} → statement M
-verb-steps-spec = tie.close (tie.spec r-Prefix-Step3-Verb-requires r-Prefix-Step4-Verb-requires returns)
+verb-steps-spec = tie.close (tie.spec r-Prefix-Step3-Verb-requires step4-verb-requires returns)

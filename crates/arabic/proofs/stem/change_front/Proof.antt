@@ -15,7 +15,7 @@ unfolding fronts
 returns c =
     let p = c .before in
     let a = p .before .args in
-    λ w st. back-to (a .env) (p .prefix-steps .result .env) w (after (prefixSteps (kindOf (a .b-is-defined)) (definition.started w))) st (p .prefix-steps .ensures w (at-start (a .env) w st) .env)
+    λ w st. back-to (a .env) (p .prefix-steps .result .env) w (after (prefixSteps (kindOf (a .context .«b_is_defined»)) (definition.started w))) st (p .prefix-steps .ensures w (at-start (a .env) w st) .env)
 
 pub change-front-spec : {M : Type 1} → statement M
 change-front-spec = tie.close (tie.spec prefix-steps-requires returns)

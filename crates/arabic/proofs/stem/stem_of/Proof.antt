@@ -21,7 +21,7 @@ change-front-requires : tie.Need-change-front-requires
 change-front-requires c κs =
     let n = c .before in
     let p = n .before .pre .0 in
-    let k = kindOf (n .before .args .b-is-defined) in
+    let k = kindOf (n .before .args .context .«b_is_defined») in
     (maqsuraIfFailed (endings k (normalise (p .0))) (after (endings k (normalise (p .0))) .text), c .cut-endings .ensures (normalise (p .0)) (n .r-Normalize-pre .ensures (p .0) (p .1)))
 
 finish-letters-requires : tie.Need-finish-letters-requires

@@ -1,0 +1,78 @@
+-- `kind::kind_of` meets its contract: its table is A_3, with its guards. Assumes nothing.
+use mathlib.Core.Path.{refl, _∙_}
+use borrow.Author.Needs.{needs}
+use Rattle.definition.specs.Tables.{«A_3»}
+use Rattle.utf8.specs.Utf8.{encode1, encode}
+use Rattle.arabic.proofs.Checking.{from-start, no-row, too-short, long-enough}
+use Rattle.arabic.proofs.kind.kind_of.Statement.{statement}
+use Rattle.arabic.proofs.kind.kind_of.Tie as tie
+
+slice-aggregate-find-among : tie.Need-slice-aggregate-find-among
+slice-aggregate-find-among c = search needs
+
+slice-aggregate-find-among-2 : tie.Need-slice-aggregate-find-among-2
+slice-aggregate-find-among-2 c = search needs
+
+slice-aggregate-find-among-3 : tie.Need-slice-aggregate-find-among-3
+slice-aggregate-find-among-3 c = search needs
+
+slice-aggregate-find-among-4 : tie.Need-slice-aggregate-find-among-4
+slice-aggregate-find-among-4 c = search needs
+
+find-among-requires : tie.Need-find-among-requires
+find-among-requires c κs = search needs
+
+returns : tie.Need-returns
+unfolding «A_3» encode encode1
+returns c =
+    let f = c .before in
+    let a = f .before .before .before .before .before .before .args in
+    λ w sc e.
+    no-row w 0 (f .find-among .result) (f .find-among .ensures .1 «A_3» refl refl w sc (from-start (a .text .now) (a .limit) ∙ e)) (c .if1 .taken)
+
+count-chars-requires : tie.Need-count-chars-requires
+count-chars-requires c κs = search needs
+
+slice-aggregate-least-letters : tie.Need-slice-aggregate-least-letters
+slice-aggregate-least-letters c = search needs
+
+least-letters-requires : tie.Need-least-letters-requires
+least-letters-requires c κs = search needs
+
+returns-2 : tie.Need-returns-2
+unfolding «A_3» encode encode1
+returns-2 c =
+    let l = c .before in
+    let n = l .before .before in
+    let f = n .before .before in
+    let a = f .before .before .before .before .before .before .args in
+    λ w sc e.
+    too-short w 0 (f .find-among .result) (f .find-among .ensures .1 «A_3» refl refl w sc (from-start (a .text .now) (a .limit) ∙ e)) (n .before .if1 .left)
+    (n .count-chars .result) (l .least-letters .result) (n .count-chars .ensures w e) (l .least-letters .ensures) (c .if2 .taken)
+
+returns-3 : tie.Need-returns-3
+unfolding «A_3» encode encode1
+returns-3 c =
+    let l = c .before in
+    let n = l .before .before in
+    let f = n .before .before in
+    let a = f .before .before .before .before .before .before .args in
+    λ w sc e.
+    long-enough w 0 (f .find-among .result) (f .find-among .ensures .1 «A_3» refl refl w sc (from-start (a .text .now) (a .limit) ∙ e)) (n .before .if1 .left)
+    (n .count-chars .result) (l .least-letters .result) (n .count-chars .ensures w e) (l .least-letters .ensures) (c .if2 .left)
+
+pub kind-of-spec : {M : Type 1} → statement M
+kind-of-spec =
+    tie.close
+    (tie.spec
+    slice-aggregate-find-among
+    slice-aggregate-find-among-2
+    slice-aggregate-find-among-3
+    slice-aggregate-find-among-4
+    find-among-requires
+    returns
+    count-chars-requires
+    slice-aggregate-least-letters
+    least-letters-requires
+    returns-2
+    returns-3)

@@ -1,0 +1,35 @@
+-- `stem::stem` meets its contract: items 1 to 5 of the word. Assumes nothing.
+use mathlib.Core.Path.{_≡_, refl, ap, _∙_, subst}
+use Rattle.definition.specs.Words.{Word}
+use Rattle.definition.specs.Kind.{Kind, OPEN, DEFINED, kind}
+use Rattle.definition.specs.Normal.{normalise}
+use Rattle.definition.specs.Stem.{stemOf, stem}
+use Rattle.snowball.specs.Chars.{started}
+use Rattle.snowball.specs.Stands.{Stands}
+use Rattle.arabic.specs.declared.context.Context.{Context}
+use Rattle.arabic.specs.Kinds.{flags}
+use Rattle.arabic.specs.Nests.{kindOf}
+use borrow.Author.Needs.{needs}
+use Rattle.arabic.proofs.stem.stem.Statement.{statement}
+use Rattle.arabic.proofs.stem.stem.Tie as tie
+
+kind-back : (k : Kind) → kindOf (flags k .defined) ≡ k
+kind-back OPEN = refl
+kind-back DEFINED = refl
+
+checked-requires : tie.Need-checked-requires
+checked-requires c κs = search needs
+
+stem-of-requires : tie.Need-stem-of-requires
+stem-of-requires c κs = search needs
+
+returns : tie.Need-returns
+unfolding stem
+returns c =
+    let k = c .before .checked in
+    λ w st.
+    let e : kindOf (k .result .«b_is_defined») ≡ kind w = ap (λ (x : Context). kindOf (x .«b_is_defined»)) (k .ensures w (st .scalars) (st .bytes)) ∙ kind-back (kind w) in
+    (e, subst (λ (x : Kind). Stands (c .stem-of .result) (started (stemOf x (normalise w)))) e (c .stem-of .ensures w st))
+
+pub stem-spec : {M : Type 1} → statement M
+stem-spec = tie.close (tie.spec checked-requires stem-of-requires returns)

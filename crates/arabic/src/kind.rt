@@ -1,0 +1,60 @@
+use crate::endings::least_letters;
+use crate::tables::A_3_CLASSES;
+use crate::tables::A_3_LENS;
+use crate::tables::A_3_LINKS;
+use crate::tables::A_3_ROWS;
+use snowball::among::find_among;
+use snowball::env::count_chars;
+ghost use mathlib.Core.Path.{_≡_};
+ghost use Prim.Native.Nat.{_≤_};
+ghost use lib.ListN.{length, take};
+ghost use Rattle.definition.specs.Words.{Word};
+ghost use Rattle.definition.specs.Kind.{kind};
+ghost use Rattle.utf8.specs.Utf8.{Scalars, encode};
+ghost use Rattle.arabic.specs.Kinds.{flags};
+
+// What a word can be, as the Rust's three flags.
+pub struct Kind {
+    pub defined: bool,
+    pub verb: bool,
+    pub noun: bool,
+}
+
+impl Kind {
+    pub const OPEN: Kind = Kind {
+        defined: false,
+        verb: true,
+        noun: true,
+    };
+
+    pub const DEFINED: Kind = Kind {
+        defined: true,
+        verb: false,
+        noun: true,
+    };
+}
+
+// The kind of the word in front of the limit: defined where it begins with a row of A_3 and has enough letters for its class.
+pub fn kind_of(text: &[u8], limit: usize) -> Kind
+    requires { ⌜ limit ≤ length (now text) ⌝ }
+    ensures { λ r. ⌜ ((w : Word) → Scalars w → take limit (now (text .entry)) ≡ encode w → r ≡ flags (kind w)) ⌝ }
+{
+    let f = find_among(
+        text,
+        0,
+        limit,
+        &A_3_ROWS,
+        &A_3_LENS,
+        &A_3_LINKS,
+        &A_3_CLASSES,
+    );
+    let class = f.class;
+    if class == 0 {
+        return Kind::OPEN;
+    }
+    let letters = count_chars(text, limit);
+    if letters < least_letters(&[5, 4], class) {
+        return Kind::OPEN;
+    }
+    Kind::DEFINED
+}
