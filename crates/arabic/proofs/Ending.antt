@@ -3,14 +3,12 @@ use mathlib.Core.Path.{_≡_, refl, sym, ap, _∙_, subst}
 use mathlib.Core.Bool.{Bool, true, false}
 use mathlib.Core.List.{List, [], _∷_, _++_, append-nil}
 use mathlib.Core.Option.{Option, none, some}
-use Prim.Native.Nat.{ℕ, zero, suc, _+_, _-_, _≤_, _<_}
+use Prim.Native.Nat.{ℕ, _+_, _-_, _≤_, _<_}
 use native.Mathlib.Omega.{arith}
-use lib.Dec.{leb}
-use lib.ListN.{length, take, drop, getD, length-append}
+use lib.ListN.{length, take, drop, length-append}
 use lib.Seq.{take-length, length-take-le, drop-length}
-use borrow.Author.Tests.{le-leb, lt-leb}
-use Rattle.definition.specs.Words.{Word, pick, endsWith}
-use Rattle.definition.specs.Search.{Rule, rowAt, longest, guard, met, taken}
+use Rattle.definition.specs.Words.{Word, endsWith}
+use Rattle.definition.specs.Search.{rowAt, longest, guard, taken}
 use Rattle.definition.specs.Tries.{Try, done, failed}
 use Rattle.definition.specs.Endings.{SuffixStep, suffix, Cut, Cutting, ending, cutOff, cutBy, cut}
 use Rattle.definition.proofs.Match.{ends-split}
@@ -22,64 +20,30 @@ use Rattle.utf8.proofs.Text.{encode1-pos}
 use Rattle.utf8.proofs.Places.{size-append}
 use Rattle.snowball.specs.declared.env.Env.{Env}
 use Rattle.snowball.specs.declared.among.Found.{Found}
-use Rattle.snowball.specs.Search.{between, Behind}
+use Rattle.snowball.specs.Search.{Behind}
 use Rattle.snowball.specs.Chars.{Chars, sliceFrom}
 use Rattle.snowball.specs.Cut.{moved}
 use Rattle.snowball.specs.Stands.{Stands, Sliced}
 use Rattle.snowball.proofs.Cut.{moved-behind}
 use Rattle.arabic.specs.declared.endings.Tried.{Tried}
 use Rattle.arabic.specs.Endings.{atEnd, Ends, Ready, Gives, placeBy, endingAt}
-
--- ---- guards
-pub guard-at : (g : List ℕ) (c k : ℕ) → (c ≡ 0 → ⊥) → k ≡ c - 1 → getD g k 0 ≡ guard g c
-guard-at g zero k h e = absurd (h refl)
-guard-at g (suc c) k h e = let z : k ≡ c = omega arith in ap (λ (n : ℕ). getD g n 0) z
-
-pub guard-beyond : (g : List ℕ) (c k : ℕ) → (c ≡ 0 → ⊥) → k ≡ c - 1 → length g ≤ k → 0 ≡ guard g c
-guard-beyond g zero k h e l = absurd (h refl)
-guard-beyond g (suc c) k h e l = go g c (omega arith)
-  where
-    go : (g : List ℕ) (k : ℕ) → length g ≤ k → 0 ≡ getD g k 0
-    go [] k l = refl
-    go (x ∷ g) zero l = absurd (omega arith)
-    go (x ∷ g) (suc k) l = go g k (omega arith)
-
-pub met-is : (g : List ℕ) (c n : ℕ) → (c ≡ 0 → ⊥) → met g c n ≡ leb (guard g c) n
-unfolding met
-met-is g zero n h = absurd (h refl)
-met-is g (suc c) n h = refl
-
-pub met-zero : (g : List ℕ) (c n : ℕ) → c ≡ 0 → met g c n ≡ false
-unfolding met
-met-zero g zero n h = refl
-met-zero g (suc c) n h = absurd (omega arith)
+use Rattle.arabic.proofs.Guarded.{no-class, too-few, enough}
 
 -- ---- where the ending begins
-pub from-start : (t : List ℕ) (limit : ℕ) → between t 0 limit ≡ take limit t
-unfolding between
-from-start t limit = let e : limit - 0 ≡ limit = omega arith in ap (λ (n : ℕ). take n (drop 0 t)) e ∙ ap (take limit) (all t)
-  where
-    all : (t : List ℕ) → drop 0 t ≡ t
-    all [] = refl
-    all (x ∷ t) = refl
-
 module _ (s : SuffixStep) (w : Word) (limit : ℕ) (f : Found) (b : Behind (suffix s .table) w limit f) where
-  by-guard : (t : Bool) → met (suffix s .guards) (f .class) (length w) ≡ t → placeBy s limit (pick t (some (longest (endsWith w) (suffix s .table))) none) ≡ endingAt s w limit
-  unfolding endingAt taken
-  by-guard t h =
-      ap (λ (x : Bool). placeBy s limit (pick x (some (longest (endsWith w) (suffix s .table))) none))
-      (sym h ∙ ap (λ (c : ℕ). met (suffix s .guards) c (length w)) (b .class))
+  begins-at : (o : Option ℕ) → taken (endsWith w) (suffix s) (length w) ≡ o → placeBy s limit o ≡ endingAt s w limit
+  unfolding endingAt
+  begins-at o q = ap (placeBy s limit) (sym q)
 
   pub no-row : f .class ≡ 0 → limit ≡ endingAt s w limit
-  no-row h = by-guard false (met-zero (suffix s .guards) (f .class) (length w) h)
+  no-row h = begins-at none (no-class (endsWith w) (suffix s) (length w) (f .class) (b .class) h)
 
   module _ (some1 : f .class ≡ 0 → ⊥) (n g : ℕ) (en : n ≡ length w) (eg : g ≡ guard (suffix s .guards) (f .class)) where
     pub too-short : n < g → limit ≡ endingAt s w limit
-    too-short h = by-guard false (met-is (suffix s .guards) (f .class) (length w) some1 ∙ lt-leb (guard (suffix s .guards) (f .class)) (length w) (omega arith))
+    too-short h = begins-at none (too-few (endsWith w) (suffix s) (length w) (f .class) (b .class) some1 n g en eg h)
 
     pub long-enough : g ≤ n → f .cursor ≡ endingAt s w limit
-    long-enough h =
-        b .cursor ∙ by-guard true (met-is (suffix s .guards) (f .class) (length w) some1 ∙ le-leb (guard (suffix s .guards) (f .class)) (length w) (omega arith))
+    long-enough h = b .cursor ∙ begins-at (some (longest (endsWith w) (suffix s .table))) (enough (endsWith w) (suffix s) (length w) (f .class) (b .class) some1 n g en eg h)
 
 -- ---- an environment at the end of its text
 module _ (e : Env) (v : Cutting) (st : Ends e v) where

@@ -8,10 +8,10 @@ use native.Mathlib.Omega.{arith}
 use lib.Dec.{leb, eqb}
 use lib.ListN.{length, take, drop, getD, length-append, length-take}
 use lib.Seq.{drop-append-add, drop-append-seam, take-append-seam, length-take-le}
-use borrow.Author.Tests.{le-leb, lt-leb, leb-true, eqb-true}
+use borrow.Author.Tests.{leb-true, eqb-true}
 use Rattle.definition.specs.Words.{Word, pick, both, beginsWith}
 use Rattle.definition.specs.Tables.{Row, «A_4», «A_5», «A_6», «A_7», «A_8», «A_9»}
-use Rattle.definition.specs.Search.{Rule, rowAt, longest, guard, met, taken}
+use Rattle.definition.specs.Search.{rowAt, guard, taken}
 use Rattle.definition.specs.Tries.{Try, done, failed}
 use Rattle.definition.specs.Fronts.{PrefixStep, prefixStep1, prefixStep2, prefixStep3aNoun, prefixStep3bNoun, prefixStep3Verb, prefixStep4Verb, prefix, replacements, notAt, Applied, frontRow, replacement, Fronting, text, passing, headed, change, beginsWithAny, applyBy, applyUnless, apply, started}
 use Rattle.definition.proofs.Match.{by, by-le, both-0, both-1, begins-split}
@@ -35,30 +35,23 @@ use Rattle.snowball.proofs.Match.{stands-inside, stands-end, place-match}
 use Rattle.snowball.proofs.Standing.{cursor-within, with-cursor, stands-letters}
 use Rattle.arabic.specs.declared.endings.Tried.{Tried}
 use Rattle.arabic.specs.Fronts.{cursorOf, atFront, Fronts, GivesFront, classBy, behindBy, Takes, encoded, measured, Puts, InPlace, ChangesInPlace}
-use Rattle.arabic.proofs.Ending.{met-is, met-zero}
+use Rattle.arabic.proofs.Guarded.{no-class, too-few, enough}
 
 -- ---- the row that is taken
 module _ (s : PrefixStep) (t rest : Word) (at : ℕ) (f : Found) (a : Ahead (prefix s .table) rest at f) where
-  abbrev row : ℕ
-  row = longest (beginsWith rest) (prefix s .table)
-
-  is-taken : (b : Bool) → met (prefix s .guards) (f .class) (length t) ≡ b → taken (beginsWith rest) (prefix s) (length t) ≡ pick b (some row) none
-  unfolding taken
-  is-taken b h = ap (λ (x : Bool). pick x (some row) none) (ap (λ (c : ℕ). met (prefix s .guards) c (length t)) (sym (a .class)) ∙ h)
-
-  none-taken : met (prefix s .guards) (f .class) (length t) ≡ false → Takes s t rest at (record { class = 0; cursor = at })
-  none-taken h = record { class = sym (ap (classBy s) (is-taken false h)); cursor = sym (ap (behindBy s at) (is-taken false h)) }
+  none-taken : taken (beginsWith rest) (prefix s) (length t) ≡ none → Takes s t rest at (record { class = 0; cursor = at })
+  none-taken q = record { class = sym (ap (classBy s) q); cursor = sym (ap (behindBy s at) q) }
 
   pub no-row : f .class ≡ 0 → Takes s t rest at (record { class = 0; cursor = at })
-  no-row h = none-taken (met-zero (prefix s .guards) (f .class) (length t) h)
+  no-row h = none-taken (no-class (beginsWith rest) (prefix s) (length t) (f .class) (a .class) h)
 
   module _ (some1 : f .class ≡ 0 → ⊥) (n g : ℕ) (en : n ≡ length t) (eg : g ≡ guard (prefix s .guards) (f .class)) where
     pub too-short : n < g → Takes s t rest at (record { class = 0; cursor = at })
-    too-short h = none-taken (met-is (prefix s .guards) (f .class) (length t) some1 ∙ lt-leb (guard (prefix s .guards) (f .class)) (length t) (omega arith))
+    too-short h = none-taken (too-few (beginsWith rest) (prefix s) (length t) (f .class) (a .class) some1 n g en eg h)
 
     pub long-enough : g ≤ n → Takes s t rest at f
     long-enough h =
-        let q = is-taken true (met-is (prefix s .guards) (f .class) (length t) some1 ∙ le-leb (guard (prefix s .guards) (f .class)) (length t) (omega arith)) in
+        let q = enough (beginsWith rest) (prefix s) (length t) (f .class) (a .class) some1 n g en eg h in
         record { class = a .class ∙ sym (ap (classBy s) q); cursor = a .cursor ∙ sym (ap (behindBy s at) q) }
 
 -- ---- a test of every step's rows: the row has letters and a class that is listed, and what is put for it is no longer in bytes

@@ -1,4 +1,5 @@
 pub mod Main
+pub mod Guarded
 pub mod Ending
 pub mod Fronted
 pub mod Items

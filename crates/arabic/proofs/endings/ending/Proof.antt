@@ -6,7 +6,8 @@ use native.Mathlib.Omega.{arith}
 use borrow.Author.Needs.{needs}
 use Rattle.definition.specs.Search.{guard}
 use Rattle.definition.specs.Endings.{suffix}
-use Rattle.arabic.proofs.Ending.{from-start, no-row, too-short, long-enough}
+use Rattle.arabic.proofs.Guarded.{from-start}
+use Rattle.arabic.proofs.Ending.{no-row, too-short, long-enough}
 use Rattle.arabic.proofs.endings.ending.Statement.{statement}
 use Rattle.arabic.proofs.endings.ending.Tie as tie
 

@@ -2,7 +2,7 @@
 use mathlib.Core.Path.{_≡_, _∙_}
 use native.Mathlib.Omega.{arith}
 use borrow.Author.Needs.{needs}
-use Rattle.arabic.proofs.Ending.{guard-at, guard-beyond}
+use Rattle.arabic.proofs.Guarded.{guard-at, guard-beyond}
 use Rattle.arabic.proofs.endings.least_letters.Statement.{statement}
 use Rattle.arabic.proofs.endings.least_letters.Tie as tie
 

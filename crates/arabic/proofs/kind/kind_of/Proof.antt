@@ -3,7 +3,8 @@ use mathlib.Core.Path.{refl, _∙_}
 use borrow.Author.Needs.{needs}
 use Rattle.definition.specs.Tables.{«A_3»}
 use Rattle.utf8.specs.Utf8.{encode1, encode}
-use Rattle.arabic.proofs.Checking.{from-start, no-row, too-short, long-enough}
+use Rattle.arabic.proofs.Guarded.{from-start}
+use Rattle.arabic.proofs.Checking.{no-row, too-short, long-enough}
 use Rattle.arabic.proofs.kind.kind_of.Statement.{statement}
 use Rattle.arabic.proofs.kind.kind_of.Tie as tie
 

@@ -7,7 +7,8 @@ use Rattle.definition.specs.Tables.{«A_21»}
 use Rattle.utf8.specs.Utf8.{encode1, encode}
 use Rattle.snowball.proofs.Answers.{low-scalars}
 use Rattle.arabic.specs.Endings.{atEnd}
-use Rattle.arabic.proofs.Ending.{cursor-limit, from-start}
+use Rattle.arabic.proofs.Guarded.{from-start}
+use Rattle.arabic.proofs.Ending.{cursor-limit}
 use Rattle.arabic.proofs.LastLetter.{not-last, room, is-last}
 use borrow.Author.Needs.{needs}
 use Rattle.arabic.proofs.maqsura.r_Suffix_All_alef_maqsura.Statement.{statement}
