@@ -1,6 +1,6 @@
 use crate::endings::Tried;
 use crate::kind::kind_of;
-use crate::prefixes::covered_Prefix_Step4_Verb;
+use crate::prefixes::replace_Prefix_Step4_Verb;
 use snowball::env::Env;
 ghost use mathlib.Core.Path.{_≡_};
 ghost use mathlib.Core.Bool.{true, false};
@@ -22,7 +22,7 @@ pub struct Context {
     pub i_word_len: usize,
 }
 
-// The kind check: stores the kind's three flags.
+// The Rust's r_Checks1: stores the kind's three flags in the lent context.
 pub fn r_Checks1(text: &[u8], limit: usize, context: &mut Context)
     requires { ⌜ limit ≤ length (now text) ⌝ }
     ensures { λ _. ⌜ ((w : Word) → Scalars w → take limit (now (text .entry)) ≡ encode w → now (context .exit) ≡ flagged (now (context .entry)) (flags (kind w))) ⌝ }
@@ -55,12 +55,12 @@ pub struct Flagged {
     pub noun: bool,
 }
 
-// The step on values: where it succeeds, the word is a verb and no noun.
+// r_Prefix_Step4_Verb on values: where it succeeds, the word is a verb and no noun.
 pub fn flagged_Prefix_Step4_Verb(env: Env, verb: bool, noun: bool) -> Flagged
     requires { ⌜ ReadyFront env ⌝ }
     ensures { λ r. ⌜ ((w : Fronting) → Fronts env w → GivesFront (r .tried) (apply prefixStep4Verb w)) × (r .verb ≡ pick (r .tried .found) true verb) × (r .noun ≡ pick (r .tried .found) false noun) ⌝ }
 {
-    let t = covered_Prefix_Step4_Verb(env);
+    let t = replace_Prefix_Step4_Verb(env);
     let found = t.found;
     if found {
         return Flagged {
@@ -76,7 +76,7 @@ pub fn flagged_Prefix_Step4_Verb(env: Env, verb: bool, noun: bool) -> Flagged
     }
 }
 
-// The step, with its flags in the context.
+// The Rust's r_Prefix_Step4_Verb: the step, with its flags in the lent context.
 pub fn r_Prefix_Step4_Verb(env: Env, context: &mut Context) -> Tried
     requires { ⌜ ReadyFront env ⌝ }
     ensures { λ r. ⌜ ((w : Fronting) → Fronts env w → GivesFront r (apply prefixStep4Verb w)) × (now (context .exit) ≡ madeVerb (now (context .entry)) (r .found)) ⌝ }
@@ -93,7 +93,7 @@ pub struct Stepped {
     pub context: Context,
 }
 
-// The step on a context by value.
+// r_Prefix_Step4_Verb with the context by value.
 pub fn step4_verb(env: Env, context: Context) -> Stepped
     requires { ⌜ ReadyFront env ⌝ }
     ensures { λ r. ⌜ ((w : Fronting) → Fronts env w → GivesFront (r .tried) (apply prefixStep4Verb w)) × (r .context ≡ madeVerb context (r .tried .found)) ⌝ }

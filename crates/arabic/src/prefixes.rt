@@ -31,7 +31,8 @@ ghost use Rattle.definition.specs.Words.{Word};
 ghost use Rattle.definition.specs.Fronts.{Fronting, prefixStep1, prefixStep2, prefixStep3aNoun, prefixStep3bNoun, prefixStep3Verb, prefixStep4Verb, apply, started};
 ghost use Rattle.arabic.specs.Fronts.{Fronts, ReadyFront, ReadyStart, GivesFront};
 
-// The steps of item 4, each under its Rust name: a table, its guards by class, and what stands for the row by class.
+// The steps of item 4, each a table, its guards by class, and what stands for the row by class. All but the last, which
+// also has flags to store, are under their Rust names.
 
 // Only at the start of the text.
 pub fn r_Prefix_Step1(env: Env) -> Tried
@@ -168,7 +169,8 @@ pub fn r_Prefix_Step3_Verb(env: Env) -> Tried
     )
 }
 
-pub fn covered_Prefix_Step4_Verb(env: Env) -> Tried
+// What r_Prefix_Step4_Verb of `context` does to the text; the flags are stored there.
+pub fn replace_Prefix_Step4_Verb(env: Env) -> Tried
     requires { ⌜ ReadyFront env ⌝ }
     ensures { λ r. ⌜ ((w : Fronting) → Fronts env w → GivesFront r (apply prefixStep4Verb w)) ⌝ }
 {

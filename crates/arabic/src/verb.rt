@@ -79,7 +79,8 @@ fn or_Step2c(t: Tried) -> Tried
     r_Suffix_Verb_Step2c(x)
 }
 
-// An alternative that always succeeds. The Rust's `next` there moves the cursor, which is put back before anything reads it.
+// The last alternative, which always succeeds: the noun's `none`, and in place of the Rust's `next` behind the verb's Step1
+// and the noun's Step1a (docs/DECISIONS.md, 18).
 pub fn or_nothing(t: Tried) -> Tried
     requires { ⌜ Given t ⌝ }
     ensures { λ r. ⌜ ((y : Try Cutting) → Gives t y → Gives r (orElse y nothing)) ⌝ }

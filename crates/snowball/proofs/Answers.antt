@@ -184,6 +184,18 @@ module _ (ws : List (List ℕ)) (ns cs : List ℕ) (z : Sized ws ns) (e : length
   row-key : (r ≡ length ns → ⊥) → rowAt (rowsOf ws ns cs) r .letters ≡ take (getD ns r 0) (getD ws r [])
   row-key ne = row-letters ws cs ns r e (row-inside ne)
 
+  none-bytes : r ≡ length ns → (0 ≡ rowAt (rowsOf ws ns cs) (longest on-bytes (rowsOf ws ns cs)) .class) × (length (rowAt (rowsOf ws ns cs) (longest on-bytes (rowsOf ws ns cs)) .letters) ≡ 0)
+  none-bytes n =
+      let b : longest on-bytes (rowsOf ws ns cs) ≡ length (rowsOf ws ns cs) = sym is ∙ n ∙ z .lens ∙ sym (rows-length ws cs ns e) in
+      (sym (ap (λ (i : ℕ). rowAt (rowsOf ws ns cs) i .class) b ∙ row-behind (rowsOf ws ns cs)), ap (λ (i : ℕ). length (rowAt (rowsOf ws ns cs) i .letters)) b ∙ no-letters (rowsOf ws ns cs))
+
+  some-bytes : (r ≡ length ns → ⊥)
+      → (getD cs r 0 ≡ rowAt (rowsOf ws ns cs) (longest on-bytes (rowsOf ws ns cs)) .class) × (getD ns r 0 ≡ length (rowAt (rowsOf ws ns cs) (longest on-bytes (rowsOf ws ns cs)) .letters))
+  some-bytes ne = (
+    sym (row-class ws cs ns r e (row-inside ne)) ∙ ap (λ (i : ℕ). rowAt (rowsOf ws ns cs) i .class) is,
+    sym (z .size r (row-inside ne)) ∙ ap length (sym (row-key ne)) ∙ ap (λ (i : ℕ). length (rowAt (rowsOf ws ns cs) i .letters)) is,
+  )
+
   -- the definition's table, and the test on letters that answers the same row
   module _ (t : Table) (q : rowsOf ws ns cs ≡ byteTable t) (on-letters : Word → Bool) (b : longest on-bytes (byteTable t) ≡ longest on-letters t) where
     same-row : r ≡ longest on-letters t
@@ -222,6 +234,13 @@ plain-scalars (k ∷ t) e = (low-scalars (k .letters) (both-0 (low (k .letters))
 -- ---- forward and backward
 module _ (ws : List (List ℕ)) (ns js cs : List ℕ) (e : length cs ≡ length ws) (s : List ℕ) (r : ℕ) where
   module _ (w : T (wellFormed (keys ws ns) ns js)) (is : r ≡ longest (beginsWith s) (rowsOf ws ns cs)) where
+    pub ahead-none-bytes : r ≡ length ns → (0 ≡ rowAt (rowsOf ws ns cs) (longest (beginsWith s) (rowsOf ws ns cs)) .class) × (length (rowAt (rowsOf ws ns cs) (longest (beginsWith s) (rowsOf ws ns cs)) .letters) ≡ 0)
+    ahead-none-bytes = none-bytes ws ns cs (sized-ahead ws ns js w) e (beginsWith s) r is
+
+    pub ahead-some-bytes : (r ≡ length ns → ⊥)
+        → (getD cs r 0 ≡ rowAt (rowsOf ws ns cs) (longest (beginsWith s) (rowsOf ws ns cs)) .class) × (getD ns r 0 ≡ length (rowAt (rowsOf ws ns cs) (longest (beginsWith s) (rowsOf ws ns cs)) .letters))
+    ahead-some-bytes = some-bytes ws ns cs (sized-ahead ws ns js w) e (beginsWith s) r is
+
     pub ahead-inside : (r ≡ length ns → ⊥) → (r < length ws) × (length ns ≡ length ws) × (getD ns r 0 ≤ length s)
     ahead-inside ne =
         let z = sized-ahead ws ns js w in
@@ -246,6 +265,13 @@ module _ (ws : List (List ℕ)) (ns js cs : List ℕ) (e : length cs ≡ length 
           (some-class ws ns cs z e (beginsWith s) r is t q (beginsWith v) ahead-same ne, some-size ws ns cs z e (beginsWith s) r is t q (beginsWith v) ahead-same ne)
 
   module _ (w : T (wellFormed (keysBack ws ns) ns js)) (is : r ≡ longest (endsWith s) (rowsOf ws ns cs)) where
+    pub behind-none-bytes : r ≡ length ns → (0 ≡ rowAt (rowsOf ws ns cs) (longest (endsWith s) (rowsOf ws ns cs)) .class) × (length (rowAt (rowsOf ws ns cs) (longest (endsWith s) (rowsOf ws ns cs)) .letters) ≡ 0)
+    behind-none-bytes = none-bytes ws ns cs (sized-behind ws ns js w) e (endsWith s) r is
+
+    pub behind-some-bytes : (r ≡ length ns → ⊥)
+        → (getD cs r 0 ≡ rowAt (rowsOf ws ns cs) (longest (endsWith s) (rowsOf ws ns cs)) .class) × (getD ns r 0 ≡ length (rowAt (rowsOf ws ns cs) (longest (endsWith s) (rowsOf ws ns cs)) .letters))
+    behind-some-bytes = some-bytes ws ns cs (sized-behind ws ns js w) e (endsWith s) r is
+
     pub behind-inside : (r ≡ length ns → ⊥) → (r < length ws) × (length ns ≡ length ws) × (getD ns r 0 ≤ length s)
     behind-inside ne =
         let z = sized-behind ws ns js w in

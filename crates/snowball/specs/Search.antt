@@ -31,6 +31,15 @@ pub record Behind (t : Table) (w : Word) (at : ℕ) (r : Found) : Type 0 where
   pub class : r .class ≡ rowAt t (longest (endsWith w) t) .class
   pub cursor : r .cursor ≡ at - size (rowAt t (longest (endsWith w) t) .letters)
 
+-- The same answers by bytes, whatever the bytes are: t is the table of the rows' bytes, and s the bytes that are searched.
+pub record AheadBytes (t : Table) (s : List ℕ) (at : ℕ) (r : Found) : Type 0 where
+  pub class : r .class ≡ rowAt t (longest (beginsWith s) t) .class
+  pub cursor : r .cursor ≡ at + length (rowAt t (longest (beginsWith s) t) .letters)
+
+pub record BehindBytes (t : Table) (s : List ℕ) (at : ℕ) (r : Found) : Type 0 where
+  pub class : r .class ≡ rowAt t (longest (endsWith s) t) .class
+  pub cursor : r .cursor ≡ at - length (rowAt t (longest (endsWith s) t) .letters)
+
 -- ---- the parts
 
 -- how many bytes u and s share from their starts on

@@ -9,7 +9,7 @@ ghost use Rattle.definition.specs.Tables.{Table};
 ghost use Rattle.definition.specs.Search.{longest};
 ghost use Rattle.utf8.specs.Utf8.{Scalars, encode};
 ghost use Rattle.snowball.specs.Rows.{keys, keysBack, before, rowsOf, byteTable, plain, ordered, wellFormed};
-ghost use Rattle.snowball.specs.Search.{lcp, between, behind, Halved, Walked, Ahead, Behind};
+ghost use Rattle.snowball.specs.Search.{lcp, between, behind, Halved, Walked, Ahead, Behind, AheadBytes, BehindBytes};
 
 // What a comparison of the text with one row tells: how many bytes are the same, and whether the text comes before the row.
 struct Compared {
@@ -294,7 +294,8 @@ pub fn find_among(
 ) -> Found
     requires { ⌜ (cursor ≤ limit) × (limit ≤ length (now text)) ⌝ }
     requires { ⌜ T (wellFormed (keys (now rows) (now lens)) (now lens) (now links)) × (length (now classes) ≡ length (now rows)) ⌝ }
-    ensures { λ r. ⌜ (cursor ≤ r .cursor) × (r .cursor ≤ limit) ⌝ }
+    ensures { λ r. ⌜ (cursor ≤ r .cursor) × (r .cursor ≤ limit)
+        × AheadBytes (rowsOf (now (rows .entry)) (now (lens .entry)) (now (classes .entry))) (between (now (text .entry)) cursor limit) cursor r ⌝ }
     ensures { λ r. ⌜ ((t : Table) → rowsOf (now (rows .entry)) (now (lens .entry)) (now (classes .entry)) ≡ byteTable t → plain t ≡ true
         → (w : Word) → Scalars w → between (now (text .entry)) cursor limit ≡ encode w → Ahead t w cursor r) ⌝ }
 {
@@ -323,7 +324,8 @@ pub fn find_among_b(
 ) -> Found
     requires { ⌜ («limit_backward» ≤ cursor) × (cursor ≤ length (now text)) ⌝ }
     requires { ⌜ T (wellFormed (keysBack (now rows) (now lens)) (now lens) (now links)) × (length (now classes) ≡ length (now rows)) ⌝ }
-    ensures { λ r. ⌜ («limit_backward» ≤ r .cursor) × (r .cursor ≤ cursor) ⌝ }
+    ensures { λ r. ⌜ («limit_backward» ≤ r .cursor) × (r .cursor ≤ cursor)
+        × BehindBytes (rowsOf (now (rows .entry)) (now (lens .entry)) (now (classes .entry))) (between (now (text .entry)) «limit_backward» cursor) cursor r ⌝ }
     ensures { λ r. ⌜ ((t : Table) → rowsOf (now (rows .entry)) (now (lens .entry)) (now (classes .entry)) ≡ byteTable t → plain t ≡ true
         → (w : Word) → Scalars w → between (now (text .entry)) «limit_backward» cursor ≡ encode w → Behind t w cursor r) ⌝ }
 {

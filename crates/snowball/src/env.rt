@@ -5,7 +5,7 @@ ghost use Prim.Native.Nat.{ℕ, _+_, _-_, _<_, _≤_};
 ghost use lib.ListN.{length, take, getD};
 ghost use lib.Seq.{paste, slice};
 ghost use Rattle.utf8.specs.Utf8.{Scalars, encode};
-ghost use Rattle.utf8.specs.Places.{starts, NextStart, LastStart};
+ghost use Rattle.utf8.specs.Places.{starts, leads, NextStart, LastStart};
 ghost use Rattle.snowball.specs.Match.{standsAt};
 ghost use Rattle.snowball.specs.Chars.{Chars, started, withCursor, eqS};
 ghost use Rattle.snowball.specs.Stands.{Stands, Holds, SameMarks, Sliced};
@@ -55,6 +55,7 @@ fn is_start(b: u8) -> bool
 pub fn count_chars(text: &[u8], limit: usize) -> usize
     requires { ⌜ limit ≤ length (now text) ⌝ }
     ensures { λ r. ⌜ ((cs : List ℕ) → take limit (now (text .entry)) ≡ encode cs → r ≡ length cs) ⌝ }
+    ensures { λ r. ⌜ r ≡ leads (take limit (now (text .entry))) ⌝ }
 {
     let mut n: usize = 0;
     let mut i = 0;
@@ -192,7 +193,7 @@ impl Env {
     // The Rust's eq_s: whether key stands at the cursor, which then moves behind it. The Rust's last loop is left out: behind
     // a key of whole letters there is a boundary.
     pub fn eq_s(mut self, key: &[u8]) -> Matched
-        requires { ⌜ self .limit ≤ 340 ⌝ }
+        requires { ⌜ Holds self ⌝ }
         ensures { λ r. ⌜ SameMarks self (r .env) × ((s : Chars) → Stands self s → (cs : List ℕ) → Scalars cs → now (key .entry) ≡ encode cs
             → (r .found ≡ standsAt (s .text) (s .cursor) cs) × Stands (r .env) (eqS s cs)) ⌝ }
     {
@@ -213,7 +214,7 @@ impl Env {
 
     // The Rust's next_char: the cursor moves over the letter behind it.
     pub fn next_char(mut self) -> Env
-        requires { ⌜ (self .limit ≤ 340) × (self .cursor < self .limit) ⌝ }
+        requires { ⌜ Holds self × (self .cursor < self .limit) ⌝ }
         ensures { λ r. ⌜ SameMarks self r × ((s : Chars) → Stands self s → Stands r (withCursor s (s .cursor + 1))) ⌝ }
     {
         let cursor = self.cursor;

@@ -38,7 +38,7 @@ returns-2 c =
       omega arith,
       λ s q p g w sc e.
           let b = f .find-among-b .ensures .1 (suffix s .table) q p w sc (from-start (a .text .now) (a .limit) ∙ e) in
-          too-short s w (a .limit) (f .find-among-b .result) b (n .before .if1 .left) (n .count-chars .result) (c .before .least-letters .result) (n .count-chars .ensures w e)
+          too-short s w (a .limit) (f .find-among-b .result) b (n .before .if1 .left) (n .count-chars .result) (c .before .least-letters .result) (n .count-chars .ensures .0 w e)
           (c .before .least-letters .ensures ∙ ap (λ (x : List ℕ). guard x (f .find-among-b .result .class)) g) (c .if2 .taken),
     )
 
@@ -50,7 +50,7 @@ returns-3 c =
       f .find-among-b .ensures .0 .1,
       λ s q p g w sc e.
           let b = f .find-among-b .ensures .1 (suffix s .table) q p w sc (from-start (a .text .now) (a .limit) ∙ e) in
-          long-enough s w (a .limit) (f .find-among-b .result) b (n .before .if1 .left) (n .count-chars .result) (c .before .least-letters .result) (n .count-chars .ensures w e)
+          long-enough s w (a .limit) (f .find-among-b .result) b (n .before .if1 .left) (n .count-chars .result) (c .before .least-letters .result) (n .count-chars .ensures .0 w e)
           (c .before .least-letters .ensures ∙ ap (λ (x : List ℕ). guard x (f .find-among-b .result .class)) g) (c .if2 .left),
     )
 

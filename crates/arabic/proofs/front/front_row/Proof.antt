@@ -32,7 +32,7 @@ returns-2 c =
     let a = f .before .before .before .before .before .before .args in
     λ s q p g t rest sc e b.
     too-short s t rest (a .cursor) (f .find-among .result) (f .find-among .ensures .1 (prefix s .table) q p rest sc b) (n .before .if1 .left)
-    (n .count-chars .result) (c .before .least-letters .result) (n .count-chars .ensures t e)
+    (n .count-chars .result) (c .before .least-letters .result) (n .count-chars .ensures .0 t e)
     (c .before .least-letters .ensures ∙ ap (λ (x : List ℕ). guard x (f .find-among .result .class)) g) (c .if2 .taken)
 
 returns-3 : tie.Need-returns-3
@@ -42,7 +42,7 @@ returns-3 c =
     let a = f .before .before .before .before .before .before .args in
     λ s q p g t rest sc e b.
     long-enough s t rest (a .cursor) (f .find-among .result) (f .find-among .ensures .1 (prefix s .table) q p rest sc b) (n .before .if1 .left)
-    (n .count-chars .result) (c .before .least-letters .result) (n .count-chars .ensures t e)
+    (n .count-chars .result) (c .before .least-letters .result) (n .count-chars .ensures .0 t e)
     (c .before .least-letters .ensures ∙ ap (λ (x : List ℕ). guard x (f .find-among .result .class)) g) (c .if2 .left)
 
 pub front-row-spec : {M : Type 1} → statement M

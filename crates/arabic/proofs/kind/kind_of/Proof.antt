@@ -49,7 +49,7 @@ returns-2 c =
     let a = f .before .before .before .before .before .before .args in
     λ w sc e.
     too-short w 0 (f .find-among .result) (f .find-among .ensures .1 «A_3» refl refl w sc (from-start (a .text .now) (a .limit) ∙ e)) (n .before .if1 .left)
-    (n .count-chars .result) (l .least-letters .result) (n .count-chars .ensures w e) (l .least-letters .ensures) (c .if2 .taken)
+    (n .count-chars .result) (l .least-letters .result) (n .count-chars .ensures .0 w e) (l .least-letters .ensures) (c .if2 .taken)
 
 returns-3 : tie.Need-returns-3
 unfolding «A_3» encode encode1
@@ -60,7 +60,7 @@ returns-3 c =
     let a = f .before .before .before .before .before .before .args in
     λ w sc e.
     long-enough w 0 (f .find-among .result) (f .find-among .ensures .1 «A_3» refl refl w sc (from-start (a .text .now) (a .limit) ∙ e)) (n .before .if1 .left)
-    (n .count-chars .result) (l .least-letters .result) (n .count-chars .ensures w e) (l .least-letters .ensures) (c .if2 .left)
+    (n .count-chars .result) (l .least-letters .result) (n .count-chars .ensures .0 w e) (l .least-letters .ensures) (c .if2 .left)
 
 pub kind-of-spec : {M : Type 1} → statement M
 kind-of-spec =

@@ -11,7 +11,7 @@ count-chars-requires c κs = search needs
 r-Normalize-post-requires : tie.Need-r-Normalize-post-requires
 r-Normalize-post-requires c κs =
     let p = c .before .before .before .before .pre in
-    (started (p .0), p .1, omega (arith, c .count-chars .ensures (p .0) (p .1 .bytes)))
+    (started (p .0), p .1, omega (arith, c .count-chars .ensures .0 (p .0) (p .1 .bytes)))
 
 returns : tie.Need-returns
 returns c = c .r-Normalize-post .ensures

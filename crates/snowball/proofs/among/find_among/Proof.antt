@@ -9,7 +9,7 @@ use Rattle.definition.specs.Search.{longest}
 use Rattle.snowball.specs.Rows.{rowsOf}
 use Rattle.snowball.specs.Search.{between}
 use Rattle.snowball.proofs.Read.{between-length}
-use Rattle.snowball.proofs.Answers.{ahead-inside, ahead-none, ahead-some}
+use Rattle.snowball.proofs.Answers.{ahead-inside, ahead-none, ahead-some, ahead-none-bytes, ahead-some-bytes}
 use Rattle.snowball.proofs.among.find_among.Statement.{statement}
 use Rattle.snowball.proofs.among.find_among.Tie as tie
 
@@ -40,7 +40,7 @@ returns : tie.Need-returns
 returns c =
     let f = c .before in
     let x = a f .args in (
-      (omega arith, omega (arith, a f .pre .0 .0)),
+      (omega arith, omega (arith, a f .pre .0 .0), let n = ahead-none-bytes (x .rows .now) (x .lens .now) (x .links .now) (x .classes .now) (a f .pre .1 .1) (s f) (r f) (a f .pre .1 .0) (is f) (c .if1 .taken) in record { class = n .0; cursor = omega (arith, n .1) }),
       λ t q p w sc e.
           let n = ahead-none (x .rows .now) (x .lens .now) (x .links .now) (x .classes .now) (a f .pre .1 .1) (s f) (r f) (a f .pre .1 .0) (is f) t q p w sc e (c .if1 .taken) in
           record { class = n .0; cursor = omega (arith, n .1) },
@@ -64,7 +64,7 @@ returns-2 c =
     let f = e .before in
     let x = a f .args in
     let i = inside f (e .if1 .left) in (
-      (omega arith, omega (arith, i .2, c .wide .ensures)),
+      (omega arith, omega (arith, i .2, c .wide .ensures), let n = ahead-some-bytes (x .rows .now) (x .lens .now) (x .links .now) (x .classes .now) (a f .pre .1 .1) (s f) (r f) (a f .pre .1 .0) (is f) (e .if1 .left) in record { class = n .0; cursor = ap (λ (m : ℕ). x .cursor + m) (c .wide .ensures ∙ n .1) }),
       λ t q p w sc z.
           let n = ahead-some (x .rows .now) (x .lens .now) (x .links .now) (x .classes .now) (a f .pre .1 .1) (s f) (r f) (a f .pre .1 .0) (is f) t q p w sc z (e .if1 .left) in
           record { class = n .0; cursor = ap (λ (m : ℕ). x .cursor + m) (c .wide .ensures ∙ n .1) },

@@ -46,10 +46,10 @@ loop-again c =
 
 returns : tie.Need-returns Inv-loop μ-loop
 returns c =
-    λ cs e.
     let x = c .before .before .before .args in
     let h : c .before .loop .i ≡ x .limit = omega arith in
-    c .before .loop .inv .2 ∙ ap (λ (k : ℕ). leads (take k (x .text .now))) h ∙ ap leads e ∙ leads-encode cs
+    let n = c .before .loop .inv .2 ∙ ap (λ (k : ℕ). leads (take k (x .text .now))) h in
+    (λ cs e. n ∙ ap leads e ∙ leads-encode cs, n)
 
 pub count-chars-spec : {M : Type 1} → statement M
 count-chars-spec =

@@ -8,13 +8,14 @@ use Rattle.snowball.proofs.env.Env.eq_s.Statement.{statement}
 use Rattle.snowball.proofs.env.Env.eq_s.Tie as tie
 
 stands-at-requires : tie.Need-stands-at-requires
-stands-at-requires c κs = search needs
+stands-at-requires c κs = let h = c .before .before .before .before .pre .1 .within in search needs
 
 add-self : tie.Need-add-self
 add-self c =
     let a = c .before .before .before .before .before .before in
     let x = a .args in
     let n : length (x .t1 .current) ≡ 340 = search needs in
+    let h = a .pre .1 .within in
     omega (arith, at-fits (x .t1 .current) (x .t1 .cursor) (x .t1 .limit) (x .key .now) (omega arith) (sym (c .before .stands-at .ensures) ∙ c .if1 .taken))
 
 returns : tie.Need-returns

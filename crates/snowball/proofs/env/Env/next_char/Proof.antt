@@ -6,7 +6,7 @@ use Rattle.snowball.proofs.env.Env.next_char.Statement.{statement}
 use Rattle.snowball.proofs.env.Env.next_char.Tie as tie
 
 next-start-requires : tie.Need-next-start-requires
-next-start-requires c κs = search needs
+next-start-requires c κs = let h = c .before .before .before .pre .0 .1 .within in search needs
 
 returns : tie.Need-returns
 returns c =

@@ -1,12 +1,12 @@
--- `prefixes::covered_Prefix_Step4_Verb` meets its contract: its table is A_9, with its guards and what stands for its rows. Assumes nothing.
+-- `prefixes::replace_Prefix_Step4_Verb` meets its contract: its table is A_9, with its guards and what stands for its rows. Assumes nothing.
 use mathlib.Core.Path.{_≡_, refl, sym, _∙_}
 use Rattle.definition.specs.Tables.{«A_9»}
 use Rattle.definition.specs.Fronts.{prefixStep4Verb, prefix, replacements, notAt, text, change}
 use Rattle.utf8.specs.Utf8.{encode1, encode}
 use borrow.Author.Needs.{needs}
 use Rattle.arabic.proofs.Fronted.{front-fits, rest-scalars, rest-bytes, passing-in-place}
-use Rattle.arabic.proofs.prefixes.covered_Prefix_Step4_Verb.Statement.{statement}
-use Rattle.arabic.proofs.prefixes.covered_Prefix_Step4_Verb.Tie as tie
+use Rattle.arabic.proofs.prefixes.replace_Prefix_Step4_Verb.Statement.{statement}
+use Rattle.arabic.proofs.prefixes.replace_Prefix_Step4_Verb.Tie as tie
 
 slice-aggregate-front-row : tie.Need-slice-aggregate-front-row
 slice-aggregate-front-row c = search needs
@@ -55,8 +55,8 @@ returns c =
     refl
     (passing-in-place w)
 
-pub covered-Prefix-Step4-Verb-spec : {M : Type 1} → statement M
-covered-Prefix-Step4-Verb-spec =
+pub replace-Prefix-Step4-Verb-spec : {M : Type 1} → statement M
+replace-Prefix-Step4-Verb-spec =
     tie.close
     (tie.spec
     slice-aggregate-front-row
