@@ -1,55 +1,77 @@
--- Item 5 on one letter: it stays, or it and what it becomes have two bytes. Assumes nothing.
+-- Item 5 on one letter: what its row's class gives; it stays, or it and what it becomes have two bytes. Assumes nothing.
 use mathlib.Core.Path.{_≡_, refl, sym, ap, _∙_}
 use mathlib.Core.Bool.{Bool, true, false}
 use mathlib.Core.Logic.{_⊎_, inl, inr}
 use mathlib.Core.List.{[], _∷_}
-use Prim.Native.Nat.{ℕ, _≤_, _<_}
+use Prim.Native.Nat.{ℕ, zero, suc, _≤_, _<_}
 use native.Mathlib.Omega.{arith}
 use lib.Dec.{eqb, leb}
-use lib.ListN.{length}
-use borrow.Author.Tests.{eqb-true, leb-true, leb-false, le-leb, lt-leb, ne-eqb}
+use lib.ListN.{length, getD}
+use borrow.Author.Tests.{eqb-true, leb-true, leb-false, le-leb, lt-leb}
 use Rattle.utf8.specs.Utf8.{Scalar, Scalars, encode1, encode}
-use Rattle.definition.specs.Words.{Word, pick}
+use Rattle.definition.specs.Letters.{hamza, alef, waw, yeh}
+use Rattle.definition.specs.Words.{Word, pick, same, beginsWith, endsWith}
+use Rattle.definition.specs.Tables.{«A_1», «A_2»}
+use Rattle.definition.specs.Search.{rowAt, longer, longest}
 use Rattle.definition.specs.Finish.{last, other, finish}
-use Rattle.definition.proofs.Match.{by, by-le}
+use Rattle.definition.proofs.Main.{main-last, main-other}
+use Rattle.definition.proofs.Match.{by}
 use Rattle.arabic.specs.Texts.{changed}
 use Rattle.arabic.proofs.Reading.{scalar-top}
 use Rattle.arabic.proofs.Stores.{size-2}
 use Rattle.arabic.proofs.Ahead.{cons-size}
 
-pub last-below : (c : ℕ) → c < 0x622 → last c ≡ c
+last-below : (c : ℕ) → c < 0x622 → last c ≡ c
 unfolding last
 last-below c h = rw (lt-leb 0x622 c h) refl
 
-pub last-above : (c : ℕ) → 0x626 < c → last c ≡ c
+last-above : (c : ℕ) → 0x626 < c → last c ≡ c
 unfolding last
 last-above c h = rw (le-leb 0x622 c (omega arith), lt-leb c 0x626 h) refl
 
-pub last-in : (c : ℕ) → 0x622 ≤ c → c ≤ 0x626 → last c ≡ 0x621
+last-in : (c : ℕ) → 0x622 ≤ c → c ≤ 0x626 → last c ≡ 0x621
 unfolding last
 last-in c h k = rw (le-leb 0x622 c h, le-leb c 0x626 k) refl
 
-pub other-alef : (c : ℕ) → 0x622 ≤ c → c < 0x624 → other c ≡ 0x627
-unfolding other
-other-alef c h k =
-    by-le c 0x622 (λ l. let e : c ≡ 0x622 = omega arith in rw e refl) (λ l. let e : c ≡ 0x623 = omega arith in rw e refl)
+-- ---- by the rows: k is the class of the row of A_1 or A_2 that the letter is
 
-pub other-waw : (c : ℕ) → c ≡ 0x624 → other c ≡ 0x648
-unfolding other
-other-waw c e = rw e refl
+-- what a class gives for c: one of three letters, and c itself for class 0
+abbrev by-class : ℕ → ℕ → ℕ → ℕ → ℕ → ℕ
+by-class c x y z k = getD (c ∷ x ∷ y ∷ z ∷ []) k c
 
-pub other-alef-below : (c : ℕ) → c ≡ 0x625 → other c ≡ 0x627
-unfolding other
-other-alef-below c e = rw e refl
+no-class : (c x y z k : ℕ) → (k ≡ 1 → ⊥) → (k ≡ 2 → ⊥) → (k ≡ 3 → ⊥) → by-class c x y z k ≡ c
+no-class c x y z zero e f g = refl
+no-class c x y z (suc zero) e f g = absurd (e refl)
+no-class c x y z (suc (suc zero)) e f g = absurd (f refl)
+no-class c x y z (suc (suc (suc zero))) e f g = absurd (g refl)
+no-class c x y z (suc (suc (suc (suc k)))) e f g = refl
 
-pub other-yeh : (c : ℕ) → c ≡ 0x626 → other c ≡ 0x64A
-unfolding other
-other-yeh c e = rw e refl
+-- a letter alone ends with what it begins with
+both-ends : (c : ℕ) → longest (endsWith (c ∷ [])) «A_1» ≡ longest (beginsWith (c ∷ [])) «A_1»
+unfolding «A_1» longest longer beginsWith endsWith
+both-ends c = refl
 
-pub other-none : (c : ℕ) → (c ≡ 0x622 → ⊥) → (c ≡ 0x623 → ⊥) → (c ≡ 0x624 → ⊥) → (c ≡ 0x625 → ⊥) → (c ≡ 0x626 → ⊥)
-    → other c ≡ c
-unfolding other
-other-none c a b d e f = rw (ne-eqb c 0x622 a, ne-eqb c 0x623 b, ne-eqb c 0x624 d, ne-eqb c 0x625 e, ne-eqb c 0x626 f) refl
+module _ (c k : ℕ) (h : k ≡ rowAt «A_1» (longest (endsWith (c ∷ [])) «A_1») .class) where
+  last-class : last c ≡ by-class c hamza hamza hamza k
+  last-class = main-last c ∙ ap (by-class c hamza hamza hamza) (ap (λ (r : ℕ). rowAt «A_1» r .class) (sym (both-ends c)) ∙ sym h)
+
+  pub last-of-class : (n : ℕ) → k ≡ n → by-class c hamza hamza hamza n ≡ last c
+  last-of-class n e = sym (last-class ∙ ap (by-class c hamza hamza hamza) e)
+
+  pub last-of-none : (k ≡ 1 → ⊥) → (k ≡ 2 → ⊥) → (k ≡ 3 → ⊥) → c ≡ last c
+  last-of-none e f g = sym (last-class ∙ no-class c hamza hamza hamza k e f g)
+
+module _ (c k : ℕ) (h : k ≡ rowAt «A_2» (longest (beginsWith (c ∷ [])) «A_2») .class) where
+  other-class : other c ≡ by-class c alef waw yeh k
+  other-class = main-other c ∙ ap (by-class c alef waw yeh) (sym h)
+
+  pub other-of-class : (n : ℕ) → k ≡ n → by-class c alef waw yeh n ≡ other c
+  other-of-class n e = sym (other-class ∙ ap (by-class c alef waw yeh) e)
+
+  pub other-of-none : (k ≡ 1 → ⊥) → (k ≡ 2 → ⊥) → (k ≡ 3 → ⊥) → c ≡ other c
+  other-of-none e f g = sym (other-class ∙ no-class c alef waw yeh k e f g)
+
+-- ---- what becomes of a letter's bytes
 
 abbrev Kept : ℕ → ℕ → Type 0
 Kept c d = (d ≡ c) ⊎ ((0x80 ≤ c) × (c < 0x800) × (0x80 ≤ d) × (d < 0x800))

@@ -1,16 +1,18 @@
 -- The letter loop of item 5, in place and on plain values. Assumes nothing.
 use mathlib.Core.Path.{_≡_, refl, sym, ap, _∙_}
 use mathlib.Core.List.{List, [], _∷_, _++_, append-assoc, append-nil}
-use Prim.Native.Nat.{ℕ, _+_, _≤_, _<_}
+use Prim.Native.Nat.{ℕ, _+_, _-_, _≤_, _<_}
 use native.Mathlib.Omega.{arith}
 use lib.Dec.{eqb}
 use lib.ListN.{length, take, drop}
+use lib.Seq.{take-append-seam}
 use borrow.Author.Tests.{eq-eqb, ne-eqb}
 use Rattle.utf8.specs.Utf8.{encode1, encode}
 use Rattle.utf8.proofs.Text.{encode1-pos, encode-injective}
 use Rattle.definition.specs.Words.{Word}
 use Rattle.definition.specs.Finish.{finish}
-use Rattle.arabic.specs.Bytes.{Encodes, SomeLetter, Read, Wrote}
+use Rattle.snowball.specs.Search.{between}
+use Rattle.arabic.specs.Bytes.{Encodes, LetterFrom, SomeLetter, Read, Wrote}
 use Rattle.arabic.specs.declared.normalize.Letter.{Letter}
 use Rattle.arabic.specs.Texts.{changed, Finished}
 use Rattle.arabic.proofs.Changes.{changed-size, changed-top}
@@ -69,6 +71,22 @@ module _ {old : List ℕ} {limit turns : ℕ} {text : List ℕ} {i k : ℕ} (v :
 
     pub moves : i + l .width ≤ limit
     moves = omega (arith, is .1, n .ends)
+
+    -- its bytes
+    pub letter-from : limit ≤ 340 → LetterFrom text i (i + l .width) (l .code)
+    unfolding between
+    letter-from k =
+        let z : (i + l .width) - i ≡ length (encode1 (n .c)) = omega (arith, is .1) in
+        record {
+          scalar = rw (is .0) (n .at .0);
+          order = omega arith;
+          within = omega (arith, moves, v .size);
+          bytes =
+              ap (λ (x : ℕ). take x (drop i text)) z
+              ∙ ap (take (length (encode1 (n .c)))) (n .at .1)
+              ∙ take-append-seam (encode1 (n .c)) (encode (n .t) ++ drop limit old)
+              ∙ ap encode1 (sym (is .0));
+        }
 
     module _ (c : ℕ) (e : c ≡ changed (eqb (i + l .width) limit) (l .code)) where
       is-changed : c ≡ changed (eqb (i + l .width) limit) (n .c)

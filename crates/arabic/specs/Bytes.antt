@@ -1,10 +1,11 @@
 -- Letters in bytes: a text, the letter at a place, and letters that are written.
-use Prim.Native.Nat.{ℕ, _+_}
+use Prim.Native.Nat.{ℕ, _+_, _≤_}
 use mathlib.Core.Path.{_≡_}
 use mathlib.Core.List.{List, _++_}
 use lib.ListN.{length, take, drop}
 use Rattle.utf8.specs.Utf8.{Scalar, Scalars, encode1, encode}
 use Rattle.definition.specs.Words.{Word}
+use Rattle.snowball.specs.Search.{between}
 use Rattle.arabic.specs.declared.normalize.Letter.{Letter}
 
 -- the bytes are those of the letters cs
@@ -14,6 +15,13 @@ Encodes bytes cs = Scalars cs × (bytes ≡ encode cs)
 -- the letter c stands at the byte i of text, with the bytes t behind it
 abbrev pub LetterAt : List ℕ → ℕ → ℕ → List ℕ → Type 0
 LetterAt text i c t = Scalar c × (drop i text ≡ encode1 c ++ t)
+
+-- the bytes of text from one place up to another are those of the letter c
+pub record LetterFrom (text : List ℕ) (from to c : ℕ) : Type 0 where
+  pub scalar : Scalar c
+  pub order : from ≤ to
+  pub within : to ≤ length text
+  pub bytes : between text from to ≡ encode1 c
 
 -- some letter stands at the byte i of text
 abbrev pub SomeLetter : List ℕ → ℕ → Type 0

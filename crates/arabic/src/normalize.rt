@@ -1,6 +1,16 @@
 use crate::a_0::A_0_CLASSES;
 use crate::a_0::A_0_GIVES;
 use crate::a_0::A_0_KEYS;
+use crate::tables::A_1_CLASSES;
+use crate::tables::A_1_LENS;
+use crate::tables::A_1_LINKS;
+use crate::tables::A_1_ROWS;
+use crate::tables::A_2_CLASSES;
+use crate::tables::A_2_LENS;
+use crate::tables::A_2_LINKS;
+use crate::tables::A_2_ROWS;
+use snowball::among::find_among;
+use snowball::among::find_among_b;
 use snowball::env::Env;
 ghost use mathlib.Core.Path.{_≡_};
 ghost use Prim.Native.Nat.{_+_, _-_, _*_, _/_, _%_, _<_, _≤_};
@@ -11,7 +21,7 @@ ghost use Rattle.definition.specs.Finish.{last, other, finish};
 ghost use Rattle.utf8.specs.Utf8.{encode1, encode};
 ghost use Rattle.snowball.specs.Chars.{Chars, started};
 ghost use Rattle.snowball.specs.Stands.{Stands, Holds};
-ghost use Rattle.arabic.specs.Bytes.{Encodes, SomeLetter, Read, Wrote};
+ghost use Rattle.arabic.specs.Bytes.{Encodes, LetterFrom, SomeLetter, Read, Wrote};
 ghost use Rattle.arabic.specs.Rows.{keys, rowOf, packedGives};
 ghost use Rattle.arabic.specs.Texts.{Normalised, Finished, changed};
 
@@ -226,33 +236,61 @@ pub fn r_Normalize_pre(env: Env) -> Env
     }
 }
 
-// What r_Normalize_post makes of a last letter. The Rust searches A_1.
-fn last_of(c: u32) -> u32
+// What r_Normalize_post makes of the last letter c, whose bytes lie from cursor to end.
+fn last_of(text: &[u8], cursor: usize, end: usize, c: u32) -> u32
+    requires { ⌜ LetterFrom (now text) cursor end c ⌝ }
     ensures { λ r. ⌜ r ≡ last c ⌝ }
 {
-    match c {
-        0x622..=0x626 => 0x621,
+    let f = find_among_b(
+        text,
+        end,
+        cursor,
+        &A_1_ROWS,
+        &A_1_LENS,
+        &A_1_LINKS,
+        &A_1_CLASSES,
+    );
+    let class = f.class;
+    match class {
+        1 => 0x621,
+        2 => 0x621,
+        3 => 0x621,
         _ => c,
     }
 }
 
-// What r_Normalize_post makes of any other letter. The Rust searches A_2.
-fn other_of(c: u32) -> u32
+// What r_Normalize_post makes of any other letter c, whose bytes lie from cursor to end.
+fn other_of(text: &[u8], cursor: usize, end: usize, c: u32) -> u32
+    requires { ⌜ LetterFrom (now text) cursor end c ⌝ }
     ensures { λ r. ⌜ r ≡ other c ⌝ }
 {
-    match c {
-        0x622 | 0x623 | 0x625 => 0x627,
-        0x624 => 0x648,
-        0x626 => 0x64A,
+    let f = find_among(
+        text,
+        cursor,
+        end,
+        &A_2_ROWS,
+        &A_2_LENS,
+        &A_2_LINKS,
+        &A_2_CLASSES,
+    );
+    let class = f.class;
+    match class {
+        1 => 0x627,
+        2 => 0x648,
+        3 => 0x64A,
         _ => c,
     }
 }
 
-// What r_Normalize_post makes of a letter.
-fn changed_of(c: u32, ending: bool) -> u32
+// What r_Normalize_post makes of the letter c, whose bytes lie from cursor to end.
+fn changed_of(text: &[u8], cursor: usize, end: usize, c: u32, ending: bool) -> u32
+    requires { ⌜ LetterFrom (now text) cursor end c ⌝ }
     ensures { λ r. ⌜ r ≡ changed ending c ⌝ }
 {
-    if ending { last_of(c) } else { other_of(c) }
+    if ending {
+        return last_of(text, cursor, end, c);
+    }
+    other_of(text, cursor, end, c)
 }
 
 // The loop of r_Normalize_post over the first limit bytes of text, in place: no letter changes its length.
@@ -268,7 +306,7 @@ fn finish_text(text: &mut [u8; 340], limit: usize, i_word_len: usize)
         }
         let letter = read_letter(text, cursor);
         let end = cursor + letter.width;
-        let c = changed_of(letter.code, end == limit);
+        let c = changed_of(text, cursor, end, letter.code, end == limit);
         put_letter(text, cursor, c);
         cursor = end;
     }
@@ -276,7 +314,7 @@ fn finish_text(text: &mut [u8; 340], limit: usize, i_word_len: usize)
 
 // The Rust's r_Normalize_post, for a text of up to i_word_len letters. The Rust first changes the last letter by a search in
 // A_1, and then makes at most i_word_len turns over the letters, each with a search in A_2. Here one pass of at most as many
-// turns does both, and letters are compared by their numbers. The Rust's answer, which is always true, is left out.
+// turns does both. The Rust's answer, which is always true, is left out.
 pub fn r_Normalize_post(mut env: Env, i_word_len: usize) -> Env
     requires { ⌜ ((s : Chars) × Stands env s × (length (s .text) ≤ «i_word_len»)) ⌝ }
     ensures { λ r. ⌜ ((w : Word) → Stands env (started w) → Stands r (started (finish w))) ⌝ }

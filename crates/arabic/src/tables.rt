@@ -1,7 +1,34 @@
 use snowball::among::NONE;
 
-// The tables A_3 to A_21 of arabic.rs: of each row the bytes, their number, the link and the class. A_0 has a file of its own,
-// and r_Normalize_post compares the letters of A_1 and A_2 as numbers.
+// The tables A_1 to A_21 of arabic.rs: of each row the bytes, their number, the link and the class. A_0 has a file of its own.
+
+pub const A_1_ROWS: [[u8; 6]; 5] = [
+    [0xD8, 0xA2, 0, 0, 0, 0],
+    [0xD8, 0xA3, 0, 0, 0, 0],
+    [0xD8, 0xA4, 0, 0, 0, 0],
+    [0xD8, 0xA5, 0, 0, 0, 0],
+    [0xD8, 0xA6, 0, 0, 0, 0],
+];
+
+pub const A_1_LENS: [u8; 5] = [2, 2, 2, 2, 2];
+
+pub const A_1_LINKS: [u8; 5] = [NONE, NONE, NONE, NONE, NONE];
+
+pub const A_1_CLASSES: [u8; 5] = [1, 1, 2, 1, 3];
+
+pub const A_2_ROWS: [[u8; 6]; 5] = [
+    [0xD8, 0xA2, 0, 0, 0, 0],
+    [0xD8, 0xA3, 0, 0, 0, 0],
+    [0xD8, 0xA4, 0, 0, 0, 0],
+    [0xD8, 0xA5, 0, 0, 0, 0],
+    [0xD8, 0xA6, 0, 0, 0, 0],
+];
+
+pub const A_2_LENS: [u8; 5] = [2, 2, 2, 2, 2];
+
+pub const A_2_LINKS: [u8; 5] = [NONE, NONE, NONE, NONE, NONE];
+
+pub const A_2_CLASSES: [u8; 5] = [1, 1, 2, 1, 3];
 
 pub const A_3_ROWS: [[u8; 6]; 4] = [
     [0xD8, 0xA7, 0xD9, 0x84, 0, 0],

@@ -1,7 +1,7 @@
 -- `finish_text`: each turn changes one letter in place, and the turns are enough for all. Assumes nothing.
 use Prim.Native.Nat.{_-_}
 use native.Mathlib.Omega.{arith}
-use Rattle.arabic.proofs.Finishing.{Inv, start, letter, moves, room, code-top, turn, at-limit, after-turns}
+use Rattle.arabic.proofs.Finishing.{Inv, start, letter, moves, letter-from, room, code-top, turn, at-limit, after-turns}
 use Rattle.arabic.proofs.normalize.finish_text.Statement.{statement}
 use Rattle.arabic.proofs.normalize.finish_text.Tie as tie
 
@@ -31,13 +31,17 @@ add-end c =
     omega (arith, moves v (omega arith) (l .result) (l .ensures), p .1 .0)
 
 changed-of-requires : tie.Need-changed-of-requires Inv-loop μ-loop
-changed-of-requires c κs = tt
+changed-of-requires c κs =
+    let l = c .before .before .before .read-letter in
+    let p = c .before .before .before .before .before .before .before .before .before .pre in
+    let v = c .before .before .before .before .before .before .before .before .loop .inv in
+    letter-from v (omega arith) (l .result) (l .ensures) (p .1 .0)
 
 put-letter-requires : tie.Need-put-letter-requires Inv-loop μ-loop
 put-letter-requires c κs =
-    let p = c .before .before .before .before .before .before .before .before .before .pre in
-    let v = c .before .before .before .before .before .before .before .before .loop .inv in
-    let l = c .before .before .before .read-letter in
+    let p = c .before .before .before .before .before .before .before .before .before .before .before .pre in
+    let v = c .before .before .before .before .before .before .before .before .before .before .loop .inv in
+    let l = c .before .before .before .before .before .read-letter in
     let k = c .before .changed-of in
     let r = room v (omega arith) (l .result) (l .ensures) (k .result) (k .ensures) in
     (omega (arith, p .1 .0), code-top v (omega arith) (l .result) (l .ensures) (k .result) (k .ensures), v .size)
@@ -50,8 +54,8 @@ loop-less c = omega arith
 
 loop-again : tie.Need-loop-again Inv-loop μ-loop
 loop-again c =
-    let v = c .before .before .before .before .before .before .before .before .before .loop .inv in
-    let l = c .before .before .before .before .read-letter in
+    let v = c .before .before .before .before .before .before .before .before .before .before .before .loop .inv in
+    let l = c .before .before .before .before .before .before .read-letter in
     let k = c .before .before .changed-of in
     let w = c .put-letter in
     turn v (omega arith) (l .result) (l .ensures) (k .result) (k .ensures) (w .result) (w .last .0) (w .ensures)
