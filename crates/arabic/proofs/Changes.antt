@@ -10,7 +10,7 @@ use lib.ListN.{length, getD}
 use borrow.Author.Tests.{eqb-true, leb-true, leb-false, le-leb, lt-leb}
 use Rattle.utf8.specs.Utf8.{Scalar, Scalars, encode1, encode}
 use Rattle.definition.specs.Letters.{hamza, alef, waw, yeh}
-use Rattle.definition.specs.Words.{Word, pick, same, beginsWith, endsWith}
+use Rattle.definition.specs.Words.{Word, pick, beginsWith, endsWith}
 use Rattle.definition.specs.Tables.{«A_1», «A_2»}
 use Rattle.definition.specs.Search.{rowAt, longer, longest}
 use Rattle.definition.specs.Finish.{last, other, finish}

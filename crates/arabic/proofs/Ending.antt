@@ -1,7 +1,7 @@
 -- The steps that cut an ending: one law over the table and the guards. Assumes nothing.
 use mathlib.Core.Path.{_≡_, refl, sym, ap, _∙_, subst}
-use mathlib.Core.Bool.{Bool, true, false}
-use mathlib.Core.List.{List, [], _∷_, _++_, append-nil}
+use mathlib.Core.Bool.{true, false}
+use mathlib.Core.List.{[], _∷_, _++_, append-nil}
 use mathlib.Core.Option.{Option, none, some}
 use Prim.Native.Nat.{ℕ, _+_, _-_, _≤_, _<_}
 use native.Mathlib.Omega.{arith}
@@ -9,10 +9,9 @@ use lib.ListN.{length, take, drop, length-append}
 use lib.Seq.{take-length, length-take-le, drop-length}
 use Rattle.definition.specs.Words.{Word, endsWith}
 use Rattle.definition.specs.Search.{rowAt, longest, guard, taken}
-use Rattle.definition.specs.Tries.{Try, done, failed}
-use Rattle.definition.specs.Endings.{SuffixStep, suffix, Cut, Cutting, ending, cutOff, cutBy, cut}
+use Rattle.definition.specs.Endings.{SuffixStep, suffix, Cutting, ending, cutOff, cutBy, cut}
 use Rattle.definition.proofs.Match.{ends-split}
-use Rattle.definition.proofs.Found.{Taken, taken-some}
+use Rattle.definition.proofs.Found.{taken-some}
 use Rattle.definition.proofs.Cutting.{row-some}
 use Rattle.utf8.specs.Utf8.{encode}
 use Rattle.utf8.specs.Places.{size, At}
@@ -23,10 +22,9 @@ use Rattle.snowball.specs.declared.among.Found.{Found}
 use Rattle.snowball.specs.Search.{Behind}
 use Rattle.snowball.specs.Chars.{Chars, sliceFrom}
 use Rattle.snowball.specs.Cut.{moved}
-use Rattle.snowball.specs.Stands.{Stands, Sliced}
+use Rattle.snowball.specs.Stands.{Stands}
 use Rattle.snowball.proofs.Cut.{moved-behind}
-use Rattle.arabic.specs.declared.endings.Tried.{Tried}
-use Rattle.arabic.specs.Endings.{atEnd, Ends, Ready, Gives, placeBy, endingAt}
+use Rattle.arabic.specs.Endings.{atEnd, Ends, Gives, placeBy, endingAt}
 use Rattle.arabic.proofs.Guarded.{no-class, too-few, enough}
 
 -- ---- where the ending begins

@@ -3,19 +3,19 @@ use mathlib.Core.Path.{_≡_, refl, sym, ap, _∙_, subst}
 use mathlib.Core.Bool.{Bool, true, false, false≢true}
 use mathlib.Core.List.{List, [], _∷_, _++_, append-assoc, append-nil}
 use mathlib.Core.Option.{Option, none, some}
-use Prim.Native.Nat.{ℕ, zero, suc, _+_, _-_, _≤_, _<_, min}
+use Prim.Native.Nat.{ℕ, zero, suc, _+_, _-_, _≤_, _<_}
 use native.Mathlib.Omega.{arith}
 use lib.Dec.{leb, eqb}
 use lib.ListN.{length, take, drop, getD, length-append, length-take}
-use lib.Seq.{drop-append-add, drop-append-seam, take-append-seam, length-take-le}
+use lib.Seq.{drop-append-add, drop-append-seam, take-append-seam}
 use borrow.Author.Tests.{leb-true, eqb-true}
 use Rattle.definition.specs.Words.{Word, pick, both, beginsWith}
 use Rattle.definition.specs.Tables.{Row, «A_4», «A_5», «A_6», «A_7», «A_8», «A_9»}
 use Rattle.definition.specs.Search.{rowAt, guard, taken}
-use Rattle.definition.specs.Tries.{Try, done, failed}
+use Rattle.definition.specs.Tries.{failed}
 use Rattle.definition.specs.Fronts.{PrefixStep, prefixStep1, prefixStep2, prefixStep3aNoun, prefixStep3bNoun, prefixStep3Verb, prefixStep4Verb, prefix, replacements, notAt, Applied, frontRow, replacement, Fronting, text, passing, headed, change, beginsWithAny, applyBy, applyUnless, apply, started}
 use Rattle.definition.proofs.Match.{by, by-le, both-0, both-1, begins-split}
-use Rattle.definition.proofs.Found.{Taken, taken-some, all, all-at}
+use Rattle.definition.proofs.Found.{taken-some, all, all-at}
 use Rattle.utf8.specs.Utf8.{Scalars, encode, encode1}
 use Rattle.utf8.specs.Places.{size, At}
 use Rattle.utf8.proofs.Text.{scalars-right}
@@ -24,7 +24,7 @@ use Rattle.snowball.specs.declared.env.Env.{Env}
 use Rattle.snowball.specs.declared.among.Found.{Found}
 use Rattle.snowball.specs.Rows.{keys, low}
 use Rattle.snowball.specs.Search.{between, Ahead}
-use Rattle.snowball.specs.Cut.{replaced, moved}
+use Rattle.snowball.specs.Cut.{moved}
 use Rattle.snowball.specs.Match.{standsAt}
 use Rattle.snowball.specs.Chars.{Chars, withCursor, sliceFrom}
 use Rattle.snowball.specs.Stands.{Stands}
@@ -33,7 +33,6 @@ use Rattle.snowball.proofs.Read.{keys-length, keys-at}
 use Rattle.snowball.proofs.Answers.{low-scalars}
 use Rattle.snowball.proofs.Match.{stands-inside, stands-end, place-match}
 use Rattle.snowball.proofs.Standing.{cursor-within, with-cursor, stands-letters}
-use Rattle.arabic.specs.declared.endings.Tried.{Tried}
 use Rattle.arabic.specs.Fronts.{cursorOf, atFront, Fronts, GivesFront, classBy, behindBy, Takes, encoded, measured, Puts, InPlace, ChangesInPlace}
 use Rattle.arabic.proofs.Guarded.{no-class, too-few, enough}
 

@@ -1,14 +1,12 @@
 -- Between the items the cursor goes to the end of the text, and back to the front. Assumes nothing.
-use mathlib.Core.Path.{_≡_, refl, sym, ap, _∙_}
-use Prim.Native.Nat.{ℕ, _≤_}
+use mathlib.Core.Path.{refl, sym, ap, _∙_}
 use native.Mathlib.Omega.{arith}
-use lib.ListN.{length, take}
 use lib.Seq.{take-length}
 use Rattle.definition.specs.Words.{Word}
 use Rattle.definition.specs.Fronts.{Fronting, text}
 use Rattle.definition.specs.Fronts as definition
 use Rattle.utf8.specs.Utf8.{encode}
-use Rattle.utf8.specs.Places.{size, At}
+use Rattle.utf8.specs.Places.{size}
 use Rattle.utf8.proofs.Places.{zero-byte}
 use Rattle.snowball.specs.declared.env.Env.{Env}
 use Rattle.snowball.specs.Chars.{started}

@@ -1,9 +1,9 @@
 -- The laws of a branch in a nest of alternatives, whatever an environment stands for. Assumes nothing.
 use mathlib.Core.Path.{_≡_, refl, sym, ap, _∙_}
-use mathlib.Core.Bool.{Bool, true, false, false≢true}
+use mathlib.Core.Bool.{true, false, false≢true}
 use mathlib.Core.List.{[], _∷_}
 use lib.ListN.{length}
-use Rattle.definition.specs.Tries.{Try, done, failed, Step, after, isDone, andThen, orElse, nothing, _thenTry_, firstOf, attempt, again}
+use Rattle.definition.specs.Tries.{Try, done, failed, Step, after, andThen, orElse, nothing, _thenTry_, attempt, again}
 use Rattle.definition.specs.Endings.{Cutting, cut, verbStep1, verbStep2a, verbStep2b, verbStep2c, nounStep1a, nounStep1b, nounStep2a, nounStep2b, nounStep2c1, nounStep2c2, nounStep3, verb, noun, endings, suffixAllAlefMaqsura, maqsuraIfFailed}
 use Rattle.definition.specs.Words.{Word}
 use Rattle.definition.specs.Fronts.{Fronting, prefixStep1, prefixStep2, prefixStep3aNoun, prefixStep3bNoun, prefixStep3Verb, prefixStep4Verb, apply, prefixSteps}

@@ -1,11 +1,11 @@
 -- The repeated step: a turn of the loop, and its end. Assumes nothing.
 use mathlib.Core.Path.{_≡_, refl, sym, ap, _∙_, subst}
 use mathlib.Core.Bool.{Bool, true, false, not, false≢true}
-use Prim.Native.Nat.{ℕ, _+_, _-_, _≤_, _<_}
+use Prim.Native.Nat.{ℕ, _-_, _≤_, _<_}
 use native.Mathlib.Omega.{arith}
 use lib.ListN.{length, take}
 use lib.Seq.{length-take-le, take-length}
-use Rattle.definition.specs.Tries.{Try, done, after, isDone, again}
+use Rattle.definition.specs.Tries.{done, after, isDone, again}
 use Rattle.definition.specs.Endings.{SuffixStep, Cutting, cut}
 use Rattle.definition.proofs.Match.{by}
 use Rattle.definition.proofs.Again.{again-turn, again-stop, cut-takes, cut-fails}

@@ -1,16 +1,16 @@
 -- The environments that r_Normalize_pre and r_Normalize_post leave stand for the word normalised and finished. Assumes nothing.
-use mathlib.Core.Path.{refl, sym, _∙_}
+use mathlib.Core.Path.{refl, sym, ap, _∙_}
 use mathlib.Core.List.{List}
 use Prim.Native.Nat.{ℕ}
 use native.Mathlib.Omega.{arith}
-use lib.ListN.{take}
+use lib.ListN.{length, take, length-take}
 use Rattle.utf8.specs.Utf8.{encode}
 use Rattle.definition.specs.Words.{Word}
 use Rattle.definition.specs.Normal.{normalise}
 use Rattle.definition.specs.Finish.{finish}
 use Rattle.snowball.specs.Chars.{Chars, started}
 use Rattle.snowball.specs.Stands.{Standing}
-use Rattle.arabic.specs.Bytes.{Encodes}
+use Rattle.arabic.specs.Bytes.{Encodes, Spelt}
 use Rattle.arabic.specs.Texts.{Normalised, Finished}
 use Rattle.arabic.proofs.Gives.{normalise-scalars}
 use Rattle.arabic.proofs.Changes.{finish-size, finish-scalars}
@@ -18,6 +18,13 @@ use Rattle.arabic.proofs.Changes.{finish-size, finish-scalars}
 module _ {current : List ℕ} {limit at behind : ℕ} where
   pub encoded : {s : Chars} → Standing current limit at behind s → Encodes (take limit current) (s .text)
   encoded v = (v .scalars, v .bytes)
+
+  pub spelt : {s : Chars} → Standing current limit at behind s → Spelt current limit
+  spelt {s} v = record {
+    word = s .text;
+    encodes = encoded v;
+    within = omega (arith, length-take limit current, ap length (v .bytes), v .sized);
+  }
 
   pub normalised : (w : Word) → Standing current limit at behind (started w) → (new : List ℕ) (n : ℕ) → Normalised w new n
       → Standing new n 0 0 (started (normalise w))

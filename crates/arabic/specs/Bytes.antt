@@ -12,6 +12,12 @@ use Rattle.arabic.specs.declared.normalize.Letter.{Letter}
 abbrev pub Encodes : List ℕ → Word → Type 0
 Encodes bytes cs = Scalars cs × (bytes ≡ encode cs)
 
+-- the first limit bytes of text are those of some word
+pub record Spelt (text : List ℕ) (limit : ℕ) : Type 0 where
+  pub word : Word
+  pub encodes : Encodes (take limit text) word
+  pub within : limit ≤ length text
+
 -- the letter c stands at the byte i of text, with the bytes t behind it
 abbrev pub LetterAt : List ℕ → ℕ → ℕ → List ℕ → Type 0
 LetterAt text i c t = Scalar c × (drop i text ≡ encode1 c ++ t)

@@ -1,6 +1,5 @@
 -- The environments of item 3: the cursor stands at the end of the text, and a search backward may go all the way.
 use Prim.Native.Nat.{ℕ, _-_}
-use mathlib.Core.Path.{_≡_}
 use mathlib.Core.Option.{Option, none, some}
 use lib.ListN.{length}
 use Rattle.definition.specs.Words.{Word, endsWith}

@@ -4,12 +4,12 @@ use crate::prefixes::replace_Prefix_Step4_Verb;
 use snowball::env::Env;
 ghost use mathlib.Core.Path.{_≡_};
 ghost use mathlib.Core.Bool.{true, false};
-ghost use Prim.Native.Nat.{_≤_};
-ghost use lib.ListN.{length, take};
+ghost use lib.ListN.{take};
 ghost use Rattle.definition.specs.Words.{Word, pick};
 ghost use Rattle.definition.specs.Kind.{kind};
 ghost use Rattle.definition.specs.Fronts.{Fronting, prefixStep4Verb, apply};
 ghost use Rattle.utf8.specs.Utf8.{Scalars, encode};
+ghost use Rattle.arabic.specs.Bytes.{Spelt};
 ghost use Rattle.arabic.specs.Kinds.{flags};
 ghost use Rattle.arabic.specs.Contexts.{started, flagged, madeVerb};
 ghost use Rattle.arabic.specs.Fronts.{Fronts, ReadyFront, GivesFront};
@@ -24,7 +24,7 @@ pub struct Context {
 
 // The Rust's r_Checks1: stores the kind's three flags in the lent context.
 pub fn r_Checks1(text: &[u8], limit: usize, context: &mut Context)
-    requires { ⌜ limit ≤ length (now text) ⌝ }
+    requires { ⌜ Spelt (now text) limit ⌝ }
     ensures { λ _. ⌜ ((w : Word) → Scalars w → take limit (now (text .entry)) ≡ encode w → now (context .exit) ≡ flagged (now (context .entry)) (flags (kind w))) ⌝ }
 {
     let k = kind_of(text, limit);
@@ -35,7 +35,7 @@ pub fn r_Checks1(text: &[u8], limit: usize, context: &mut Context)
 
 // The context after the kind check, from the one that the Rust starts with.
 pub fn checked(text: &[u8], limit: usize) -> Context
-    requires { ⌜ limit ≤ length (now text) ⌝ }
+    requires { ⌜ Spelt (now text) limit ⌝ }
     ensures { λ r. ⌜ ((w : Word) → Scalars w → take limit (now (text .entry)) ≡ encode w → r ≡ flagged started (flags (kind w))) ⌝ }
 {
     let mut context = Context {

@@ -3,8 +3,7 @@ use snowball::env::Env;
 use snowball::env::count_chars;
 ghost use mathlib.Core.Path.{_≡_};
 ghost use mathlib.Core.Bool.{true};
-ghost use mathlib.Core.List.{List};
-ghost use Prim.Native.Nat.{ℕ, _≤_};
+ghost use Prim.Native.Nat.{_≤_};
 ghost use lib.ListN.{length, take};
 ghost use lib.Dec.{T};
 ghost use Rattle.definition.specs.Words.{Word};
@@ -12,6 +11,7 @@ ghost use Rattle.definition.specs.Search.{guard};
 ghost use Rattle.definition.specs.Endings.{SuffixStep, suffix, Cutting, cut};
 ghost use Rattle.utf8.specs.Utf8.{Scalars, encode};
 ghost use Rattle.snowball.specs.Rows.{keysBack, wellFormed, rowsOf, byteTable, plain};
+ghost use Rattle.arabic.specs.Bytes.{Spelt};
 ghost use Rattle.arabic.specs.Endings.{Ends, Ready, Gives, endingAt};
 
 // The environment after a step, and whether the step succeeded.
@@ -50,7 +50,7 @@ pub fn ending(
     classes: &[u8],
     guards: &[u8],
 ) -> usize
-    requires { ⌜ limit ≤ length (now text) ⌝ }
+    requires { ⌜ Spelt (now text) limit ⌝ }
     requires { ⌜ T (wellFormed (keysBack (now rows) (now lens)) (now lens) (now links)) × (length (now classes) ≡ length (now rows)) ⌝ }
     ensures { λ r. ⌜ r ≤ limit ⌝ }
     ensures { λ r. ⌜ ((s : SuffixStep) → rowsOf (now (rows .entry)) (now (lens .entry)) (now (classes .entry)) ≡ byteTable (suffix s .table)

@@ -7,8 +7,7 @@ use snowball::env::Env;
 use snowball::env::count_chars;
 ghost use mathlib.Core.Path.{_≡_};
 ghost use mathlib.Core.Bool.{true, false};
-ghost use mathlib.Core.List.{List};
-ghost use Prim.Native.Nat.{ℕ, _≤_};
+ghost use Prim.Native.Nat.{_≤_};
 ghost use lib.ListN.{length, take};
 ghost use lib.Dec.{T};
 ghost use Rattle.definition.specs.Words.{Word};
@@ -16,6 +15,7 @@ ghost use Rattle.definition.specs.Fronts.{PrefixStep, prefix, notAt, Fronting, 
 ghost use Rattle.utf8.specs.Utf8.{Scalars, encode};
 ghost use Rattle.snowball.specs.Rows.{keys, wellFormed, rowsOf, byteTable, plain};
 ghost use Rattle.snowball.specs.Search.{between};
+ghost use Rattle.arabic.specs.Bytes.{Encodes, Spelt};
 ghost use Rattle.arabic.specs.Fronts.{Fronts, GivesFront, Takes, Puts, ChangesInPlace};
 
 // The row that a step with this table and these guards takes at the cursor: its class, and the cursor behind it. Class 0
@@ -30,7 +30,7 @@ pub fn front_row(
     classes: &[u8],
     guards: &[u8],
 ) -> Found
-    requires { ⌜ (cursor ≤ limit) × (limit ≤ length (now text)) ⌝ }
+    requires { ⌜ Spelt (now text) limit × (cursor ≤ limit) × ((rest : Word) × Encodes (between (now text) cursor limit) rest) ⌝ }
     requires { ⌜ T (wellFormed (keys (now rows) (now lens)) (now lens) (now links)) × (length (now classes) ≡ length (now rows)) ⌝ }
     ensures { λ r. ⌜ ((s : PrefixStep) → rowsOf (now (rows .entry)) (now (lens .entry)) (now (classes .entry)) ≡ byteTable (prefix s .table)
         → plain (prefix s .table) ≡ true → now (guards .entry) ≡ prefix s .guards

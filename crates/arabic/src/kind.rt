@@ -6,11 +6,11 @@ use crate::tables::A_3_ROWS;
 use snowball::among::find_among;
 use snowball::env::count_chars;
 ghost use mathlib.Core.Path.{_≡_};
-ghost use Prim.Native.Nat.{_≤_};
-ghost use lib.ListN.{length, take};
+ghost use lib.ListN.{take};
 ghost use Rattle.definition.specs.Words.{Word};
 ghost use Rattle.definition.specs.Kind.{kind};
 ghost use Rattle.utf8.specs.Utf8.{Scalars, encode};
+ghost use Rattle.arabic.specs.Bytes.{Spelt};
 ghost use Rattle.arabic.specs.Kinds.{flags};
 
 // What a word can be, as the Rust's three flags.
@@ -36,7 +36,7 @@ impl Kind {
 
 // The kind of the word in front of the limit: defined where it begins with a row of A_3 and has enough letters for its class.
 pub fn kind_of(text: &[u8], limit: usize) -> Kind
-    requires { ⌜ limit ≤ length (now text) ⌝ }
+    requires { ⌜ Spelt (now text) limit ⌝ }
     ensures { λ r. ⌜ ((w : Word) → Scalars w → take limit (now (text .entry)) ≡ encode w → r ≡ flags (kind w)) ⌝ }
 {
     let f = find_among(

@@ -21,7 +21,7 @@ ghost use Rattle.definition.specs.Finish.{last, other, finish};
 ghost use Rattle.utf8.specs.Utf8.{encode1, encode};
 ghost use Rattle.snowball.specs.Chars.{Chars, started};
 ghost use Rattle.snowball.specs.Stands.{Stands, Holds};
-ghost use Rattle.arabic.specs.Bytes.{Encodes, LetterFrom, SomeLetter, Read, Wrote};
+ghost use Rattle.arabic.specs.Bytes.{Encodes, Spelt, LetterFrom, SomeLetter, Read, Wrote};
 ghost use Rattle.arabic.specs.Rows.{keys, rowOf, packedGives};
 ghost use Rattle.arabic.specs.Texts.{Normalised, Finished, changed};
 
@@ -197,7 +197,7 @@ fn give(gives: &[u32; 56], class: usize, c: u32, out: &mut [u8; 340], at: usize)
 // The loop of r_Normalize_pre, from the first limit bytes of text into out. The answer is the number of bytes written. The
 // Rust replaces each letter within the text, which moves all that is behind it.
 fn normalize_text(text: &[u8], limit: usize, out: &mut [u8; 340]) -> usize
-    requires { ⌜ ((cs : Word) × Encodes (take limit (now text)) cs) × (limit ≤ length (now text)) ⌝ }
+    requires { ⌜ Spelt (now text) limit ⌝ }
     requires { ⌜ (limit ≤ 255) × (length (now out) ≡ 340) ⌝ }
     ensures { λ r. ⌜ ((cs : Word) → Encodes (take limit (now (text .entry))) cs → Normalised cs (now (out .exit)) r) ⌝ }
 {

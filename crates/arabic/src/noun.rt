@@ -10,7 +10,7 @@ use crate::verb::or_nothing;
 use snowball::env::Env;
 ghost use Rattle.definition.specs.Tries.{Try, orElse, andThen};
 ghost use Rattle.definition.specs.Kind.{ifOpen};
-ghost use Rattle.definition.specs.Endings.{Cutting, cut, nounStep1a, nounStep1b, nounStep2a, nounStep2b, nounStep2c1, nounStep2c2, nounStep3, noun};
+ghost use Rattle.definition.specs.Endings.{Cutting, cut, nounStep2a, nounStep2b, nounStep2c1, nounStep3, noun};
 ghost use Rattle.arabic.specs.Endings.{Ends, Ready, Gives, Given};
 ghost use Rattle.arabic.specs.Nests.{kindOf, afterStep1a, afterStep1b, byStep1a, byStep1b};
 

@@ -1,6 +1,6 @@
 -- `context::checked` meets its contract: a walk of its MIR, by hand. The context is made in a local, lent to `r_Checks1`, and read back at the last value that it ensures. Assumes nothing.
 use mathlib.Core.Path.{_≡_, refl}
-use Prim.Native.Nat.{ℕ, _≤_, _<_, _^_}
+use Prim.Native.Nat.{ℕ, _<_, _^_}
 use mathlib.Core.List.{[], _∷_, List}
 use lib.Dec.{lit<}
 use lib.ListN.{length, take}
@@ -44,6 +44,7 @@ use denote.Exit.{yes}
 use Rattle.definition.specs.Words.{Word}
 use Rattle.definition.specs.Kind.{kind}
 use Rattle.utf8.specs.Utf8.{Scalars, encode}
+use Rattle.arabic.specs.Bytes.{Spelt}
 use Rattle.arabic.specs.Kinds.{flags}
 use Rattle.arabic.specs.Contexts.{started, flagged}
 use Rattle.arabic.specs.declared.context.Context.{Context}
@@ -66,7 +67,7 @@ stayed = (stay-none-slice (0 ∷ []) tt (plain (λ _. u8)) yes, (stay-none (λ _
 abbrev Checks : {M : Type 1} (𝓤 : URA M) (H : Heap 𝓤) (A : Atoms 𝓤) (mem : Memory → SProp 𝓤) (run : Routine → Fun 𝓤) → Contract 𝓤
 Checks 𝓤 H A mem run = tripleOf 𝓤 H A checks.signature (checks.spec 𝓤 H A mem run)
 
-module _ {M : Type 1} (𝓤 : URA M) (H : Heap 𝓤) (A : Atoms 𝓤) (W : Given 𝓤 H A) (at-mem : Memory → SProp 𝓤) (run : Routine → Fun 𝓤) (κ : Lft) (q : Share) (s : RefT (List ℕ)) (n : ℕ) (n-fits : n < 2 ^ 64) (within : n ≤ length (s .now)) where
+module _ {M : Type 1} (𝓤 : URA M) (H : Heap 𝓤) (A : Atoms 𝓤) (W : Given 𝓤 H A) (at-mem : Memory → SProp 𝓤) (run : Routine → Fun 𝓤) (κ : Lft) (q : Share) (s : RefT (List ℕ)) (n : ℕ) (n-fits : n < 2 ^ 64) (within : Spelt (s .now) n) where
   abbrev Arg : Type 0
   Arg = RefT (List ℕ) × (ℕ × Unit {0})
 
@@ -157,7 +158,7 @@ module _ {M : Type 1} (𝓤 : URA M) (H : Heap 𝓤) (A : Atoms 𝓤) (W : Given
 module _ {M : Type 1} (𝓤 : URA M) (H : Heap 𝓤) (A : Atoms 𝓤) (W : Given 𝓤 H A) (at-mem : Memory → SProp 𝓤) (run : Routine → Fun 𝓤) where
   checked-walks : (C : Calls 𝓤 H) (Λ : Loops 𝓤 H) → FmC 𝓤 H (W .laws) C → Triple 𝓤 (C #checks) (Checks 𝓤 H A at-mem run) → Walks 𝓤 H A f.ended stayed (WpFn 𝓤 H C Λ code.function) (f.clauses 𝓤 H A at-mem run)
   checked-walks C Λ fm known = walked 𝓤 H A f.ended stayed (f.clauses 𝓤 H A at-mem run) (WpFn 𝓤 H C Λ code.function) (λ κs. (slice-vals, (uint-vals w64, tt))) (λ κs. (shr-slice-tells (named 0) (κs .0) u8, (uint-tells w64, tt)))
-      (λ κs qs bounds a _ are. needs 𝓤 (a .1 .0 ≤ length (a .0 .now)) _ (λ within. walk 𝓤 H A W at-mem run (κs .0) (qs .0) (a .0) (a .1 .0) (are .1 .0 .1) within C Λ fm known (are .0)))
+      (λ κs qs bounds a _ are. needs 𝓤 (Spelt (a .0 .now) (a .1 .0)) _ (λ within. walk 𝓤 H A W at-mem run (κs .0) (qs .0) (a .0) (a .1 .0) (are .1 .0 .1) within C Λ fm known (are .0)))
 
   goes : AllGo 𝓤 H A W 1 (f.signature .params) (f.ended .kept) stayed
   goes = (goes-none-slice 𝓤 H A W 1 (0 ∷ []) tt (plain (λ _. u8)) yes, (goes-none 𝓤 H A W 1 (λ _. usize) yes (λ κs x f. refl), tt))

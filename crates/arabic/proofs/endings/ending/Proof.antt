@@ -1,5 +1,5 @@
 -- `endings::ending` meets its contract: the longest row, its guard and the letter count decide as the definition does. Assumes nothing.
-use mathlib.Core.Path.{_≡_, ap, _∙_}
+use mathlib.Core.Path.{ap, _∙_}
 use mathlib.Core.List.{List}
 use Prim.Native.Nat.{ℕ}
 use native.Mathlib.Omega.{arith}

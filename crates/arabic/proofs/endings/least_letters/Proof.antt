@@ -1,6 +1,5 @@
 -- `endings::least_letters` meets its contract. Assumes nothing.
-use mathlib.Core.Path.{_≡_, _∙_}
-use native.Mathlib.Omega.{arith}
+use mathlib.Core.Path.{_∙_}
 use borrow.Author.Needs.{needs}
 use Rattle.arabic.proofs.Guarded.{guard-at, guard-beyond}
 use Rattle.arabic.proofs.endings.least_letters.Statement.{statement}

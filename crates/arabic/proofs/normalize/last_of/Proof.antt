@@ -1,7 +1,6 @@
 -- `last_of`: its table is A_1, and each class gives 0621. Assumes nothing.
 use mathlib.Core.Path.{_≡_, refl, sym, _∙_}
 use mathlib.Core.List.{[], _∷_, append-nil}
-use Prim.Native.Nat.{ℕ}
 use borrow.Author.Needs.{needs}
 use Rattle.utf8.specs.Utf8.{encode1, encode}
 use Rattle.definition.specs.Tables.{«A_1»}

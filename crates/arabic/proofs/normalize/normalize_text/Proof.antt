@@ -20,7 +20,7 @@ loop-holds : tie.Need-loop-holds Inv-loop μ-loop
 loop-holds c =
     let a = c .before .args in
     let p = c .before .pre in
-    start (a .text .now) (a .limit) (a .out .now) (p .0 .0 .0) (p .0 .1) (p .1 .1) (p .0 .0 .1)
+    start (a .text .now) (a .limit) (a .out .now) (p .0 .word) (p .0 .within) (p .1 .1) (p .0 .encodes)
 
 read-letter-requires : tie.Need-read-letter-requires Inv-loop μ-loop
 read-letter-requires c κs = letter (c .before .loop .inv) (omega arith)

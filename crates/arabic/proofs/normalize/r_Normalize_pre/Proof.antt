@@ -1,19 +1,13 @@
 -- `r_Normalize_pre`: the new array holds the word normalised. Assumes nothing.
-use mathlib.Core.Path.{_≡_, refl}
-use native.Mathlib.Omega.{arith}
-use lib.ListN.{length}
-use Rattle.snowball.proofs.Owned.{owned-length}
-use Rattle.arabic.proofs.Standing.{encoded, normalised}
+use mathlib.Core.Path.{refl}
+use Rattle.arabic.proofs.Standing.{spelt, encoded, normalised}
 use Rattle.arabic.proofs.normalize.r_Normalize_pre.Statement.{statement}
 use Rattle.arabic.proofs.normalize.r_Normalize_pre.Tie as tie
 
 normalize-text-requires : tie.Need-normalize-text-requires
 normalize-text-requires c κs =
     let a = c .before .before .before .before in
-    let x = a .args .t1 in
-    let h = a .pre .0 in
-    let n : length (x .current) ≡ 340 = owned-length x _ (a .good .0) in
-    (((h .0 .text, encoded (h .1)), omega arith), (a .pre .1, refl))
+    (spelt (a .pre .0 .1), (a .pre .1, refl))
 
 returns : tie.Need-returns
 returns c =

@@ -1,9 +1,10 @@
 -- `prefixes::r_Prefix_Step3_Verb` meets its contract: its table is A_8, with its guards and what stands for its rows. Assumes nothing.
-use mathlib.Core.Path.{_≡_, refl, sym, _∙_}
+use mathlib.Core.Path.{refl}
 use Rattle.definition.specs.Tables.{«A_8»}
 use Rattle.definition.specs.Fronts.{prefixStep3Verb, prefix, replacements, notAt, text, change}
 use Rattle.utf8.specs.Utf8.{encode1, encode}
 use borrow.Author.Needs.{needs}
+use Rattle.arabic.proofs.Standing.{spelt}
 use Rattle.arabic.proofs.Fronted.{front-fits, rest-scalars, rest-bytes, passing-in-place}
 use Rattle.arabic.proofs.prefixes.r_Prefix_Step3_Verb.Statement.{statement}
 use Rattle.arabic.proofs.prefixes.r_Prefix_Step3_Verb.Tie as tie
@@ -26,7 +27,10 @@ slice-aggregate-front-row-5 c = search needs
 front-row-requires : tie.Need-front-row-requires
 front-row-requires c κs =
     let s = c .before .before .before .before .before .before .before .before in
-    let h = front-fits (s .args .t1) (s .pre .0) (s .pre .1) in search needs
+    let x = s .args .t1 in
+    let w = s .pre .0 in
+    let st = s .pre .1 in
+    ((spelt st, front-fits x w st .0, (w .rest, (rest-scalars x w st, rest-bytes x w st))), search needs)
 
 slice-aggregate-replace-front : tie.Need-slice-aggregate-replace-front
 slice-aggregate-replace-front c = search needs

@@ -1,6 +1,5 @@
 -- `stem::stem` meets its contract: items 1 to 5 of the word. Assumes nothing.
 use mathlib.Core.Path.{_≡_, refl, ap, _∙_, subst}
-use Rattle.definition.specs.Words.{Word}
 use Rattle.definition.specs.Kind.{Kind, OPEN, DEFINED, kind}
 use Rattle.definition.specs.Normal.{normalise}
 use Rattle.definition.specs.Stem.{stemOf, stem}
@@ -9,6 +8,7 @@ use Rattle.snowball.specs.Stands.{Stands}
 use Rattle.arabic.specs.declared.context.Context.{Context}
 use Rattle.arabic.specs.Kinds.{flags}
 use Rattle.arabic.specs.Nests.{kindOf}
+use Rattle.arabic.proofs.Standing.{spelt}
 use borrow.Author.Needs.{needs}
 use Rattle.arabic.proofs.stem.stem.Statement.{statement}
 use Rattle.arabic.proofs.stem.stem.Tie as tie
@@ -18,7 +18,7 @@ kind-back OPEN = refl
 kind-back DEFINED = refl
 
 checked-requires : tie.Need-checked-requires
-checked-requires c κs = search needs
+checked-requires c κs = spelt (c .before .before .before .pre .0 .1)
 
 stem-of-requires : tie.Need-stem-of-requires
 stem-of-requires c κs = search needs

@@ -1,13 +1,10 @@
 -- `stem::stem_of` meets its contract. Assumes nothing.
-use Rattle.definition.specs.Words.{Word}
 use Rattle.definition.specs.Tries.{after}
 use Rattle.definition.specs.Normal.{normalise}
 use Rattle.definition.specs.Endings.{endings, maqsuraIfFailed}
 use Rattle.definition.specs.Stem.{cutting, fronting, stemOf}
 use Rattle.snowball.specs.Chars.{started}
-use Rattle.snowball.specs.Stands.{Stands}
 use Rattle.arabic.specs.Nests.{kindOf}
-use borrow.Author.Needs.{needs}
 use Rattle.arabic.proofs.stem.stem_of.Statement.{statement}
 use Rattle.arabic.proofs.stem.stem_of.Tie as tie
 

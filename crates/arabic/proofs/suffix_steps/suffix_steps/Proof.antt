@@ -1,9 +1,8 @@
 -- `suffix_steps::suffix_steps` meets its contract. Assumes nothing.
-use mathlib.Core.Path.{_≡_, sym, subst}
-use mathlib.Core.Bool.{true, false}
+use mathlib.Core.Path.{subst}
 use Rattle.definition.specs.Words.{Word}
 use Rattle.definition.specs.Endings.{endings}
-use Rattle.arabic.specs.Endings.{Ends, Gives, Ready}
+use Rattle.arabic.specs.Endings.{Ends, Gives}
 use Rattle.arabic.specs.Nests.{kindOf, uncut}
 use Rattle.arabic.proofs.Nest.{ready, endings-is, maqsura-done, maqsura-failed}
 use borrow.Author.Needs.{needs}

@@ -4,6 +4,7 @@ use Rattle.definition.specs.Tables.{«A_18»}
 use Rattle.definition.specs.Endings.{verbStep2a, suffix}
 use Rattle.utf8.specs.Utf8.{encode1, encode}
 use borrow.Author.Needs.{needs}
+use Rattle.arabic.proofs.Standing.{spelt}
 use Rattle.arabic.proofs.suffixes.r_Suffix_Verb_Step2a.Statement.{statement}
 use Rattle.arabic.proofs.suffixes.r_Suffix_Verb_Step2a.Tie as tie
 
@@ -23,7 +24,9 @@ slice-aggregate-ending-5 : tie.Need-slice-aggregate-ending-5
 slice-aggregate-ending-5 c = search needs
 
 ending-requires : tie.Need-ending-requires
-ending-requires c κs = search needs
+ending-requires c κs =
+    let s = c .before .before .before .before .before .before .before .before in
+    (spelt (s .pre .1), search needs)
 
 cut-ending-requires : tie.Need-cut-ending-requires
 cut-ending-requires c κs = search needs

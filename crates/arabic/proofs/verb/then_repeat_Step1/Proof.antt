@@ -1,9 +1,9 @@
 -- `verb::then_repeat_Step1` meets its contract. Assumes nothing.
 use mathlib.Core.Path.{sym, subst}
 use lib.ListN.{length}
-use Prim.Native.Nat.{ℕ, _≤_}
+use Prim.Native.Nat.{_≤_}
 use Rattle.definition.specs.Endings.{Cutting, cut, verbStep1}
-use Rattle.definition.specs.Tries.{again, after}
+use Rattle.definition.specs.Tries.{again}
 use Rattle.arabic.proofs.Repeat.{again-then}
 use Rattle.arabic.proofs.Nest.{then-yes, then-no}
 use borrow.Author.Needs.{needs}
