@@ -47,7 +47,7 @@ fn change_front(env: Env, context: Context) -> Env
 }
 
 // Item 5, with as many turns as the text has letters.
-fn finish_letters(env: Env) -> Env
+pub fn finish_letters(env: Env) -> Env
     requires { ⌜ ((w : Word) × Stands env (started w)) ⌝ }
     ensures { λ r. ⌜ ((w : Word) → Stands env (started w) → Stands r (started (finish w))) ⌝ }
 {

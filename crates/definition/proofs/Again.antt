@@ -7,11 +7,11 @@ use native.Mathlib.Omega.{arith}
 use lib.ListN.{length, take, length-append}
 use lib.Seq.{length-take-le}
 use Rattle.definition.specs.Words.{Word, endsWith}
-use Rattle.definition.specs.Search.{Rule, rowAt, taken}
-use Rattle.definition.specs.Tries.{Try, done, failed, after, isDone, whileDone, again}
-use Rattle.definition.specs.Endings.{SuffixStep, suffix, Cut, Cutting, ending, cutOff, cutBy, cut}
+use Rattle.definition.specs.Search.{rowAt, taken}
+use Rattle.definition.specs.Tries.{done, after, isDone, whileDone, again}
+use Rattle.definition.specs.Endings.{SuffixStep, suffix, Cutting, ending, cutOff, cutBy, cut}
 use Rattle.definition.proofs.Match.{ends-split}
-use Rattle.definition.proofs.Found.{Taken, taken-some}
+use Rattle.definition.proofs.Found.{taken-some}
 use Rattle.definition.proofs.Cutting.{row-some}
 use Rattle.definition.proofs.Step1a.{Idle}
 

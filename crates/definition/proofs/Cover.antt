@@ -1,14 +1,14 @@
 -- Where a word ends in a key, a step whose rows that fit the key all have small guards takes a row. Assumes nothing.
-use mathlib.Core.Path.{_≡_, refl, sym, ap, _∙_, subst}
+use mathlib.Core.Path.{_≡_, refl, sym, ap, _∙_}
 use mathlib.Core.Bool.{Bool, true, false, false≢true, not}
 use mathlib.Core.Logic.{inl, inr}
-use mathlib.Core.List.{List, [], _∷_, _++_, append-assoc}
-use mathlib.Core.Option.{Option, none, some}
+use mathlib.Core.List.{List, _++_, append-assoc}
+use mathlib.Core.Option.{none, some}
 use Prim.Native.Nat.{ℕ, zero, suc, _+_, _-_, _≤_, _<_}
 use native.Mathlib.Omega.{arith}
 use lib.Dec.{leb, ltb}
-use lib.ListN.{length, take, drop, length-append, length-drop}
-use lib.Seq.{drop-at, drop-drop}
+use lib.ListN.{length, take, drop, length-drop}
+use lib.Seq.{drop-drop}
 use borrow.Author.Tests.{leb-true, leb-false, le-leb, ltb-true}
 use Rattle.definition.specs.Words.{Word, pick, both, same, endsWith}
 use Rattle.definition.specs.Tables.{Row}

@@ -1,9 +1,9 @@
 -- The endings: the word is what is left and the rows cut, each row is listed and was cut in its turn, and two letters stay. Assumes nothing.
 use mathlib.Core.Path.{_≡_, refl, sym, ap, _∙_}
-use mathlib.Core.Bool.{Bool, true, false}
+use mathlib.Core.Bool.{Bool, true}
 use mathlib.Core.List.{List, [], _∷_, _++_, reverse, reverseAux, append-assoc, append-nil}
 use mathlib.Core.Option.{Option, none, some}
-use Prim.Native.Nat.{ℕ, zero, suc, _+_, _-_, _≤_, _<_, min}
+use Prim.Native.Nat.{ℕ, _+_, _-_, _≤_, _<_, min}
 use native.Mathlib.Omega.{arith}
 use lib.Dec.{leb}
 use lib.ListN.{length, take, length-append}
@@ -11,15 +11,15 @@ use lib.Seq.{take-at}
 use borrow.Author.Tests.{leb-true}
 use Rattle.definition.specs.Words.{Word, both, endsWith}
 use Rattle.definition.specs.Tables.{Row, «A_10», «A_11», «A_12», «A_13», «A_14», «A_15», «A_16», «A_17», «A_18», «A_19», «A_20»}
-use Rattle.definition.specs.Search.{Rule, rowAt, guard, taken}
-use Rattle.definition.specs.Tries.{after, nothing, _thenTry_, firstOf, again}
-use Rattle.definition.specs.Kind.{Kind, ifOpen}
+use Rattle.definition.specs.Search.{rowAt, guard, taken}
+use Rattle.definition.specs.Tries.{after, nothing}
+use Rattle.definition.specs.Kind.{Kind}
 use Rattle.definition.specs.Endings.{SuffixStep, verbStep1, verbStep2a, verbStep2b, verbStep2c, nounStep1a, nounStep1b, nounStep2a, nounStep2b, nounStep2c1, nounStep2c2, nounStep3, suffix, Cut, Cutting, ending, joined, cutOff, cutBy, cut, verb, noun, endings}
 use Rattle.definition.specs.Stem.{without}
 use Rattle.definition.specs.Demand3.{CutFrom, CutInTurn}
 use Rattle.definition.proofs.Match.{both-0, both-1, ends-split}
 use Rattle.definition.proofs.Found.{Taken, taken-some, all, all-at}
-use Rattle.definition.proofs.Triples.{Ends, Keeps, AllKeep, keeps-first, keeps-then, keeps-if, does-again, ends-after}
+use Rattle.definition.proofs.Triples.{Ends, Keeps, keeps-first, keeps-then, keeps-if, does-again, ends-after}
 
 -- ---- what every cut keeps, all endings together keep
 module _ (P : Cutting → Type 0) (cut-keeps : (s : SuffixStep) → Keeps P (cut s)) where

@@ -1,10 +1,10 @@
 -- Demand 3, of every word. Assumes nothing.
-use mathlib.Core.Path.{_≡_, refl, sym, ap, _∙_, subst}
-use mathlib.Core.Bool.{Bool, true}
-use mathlib.Core.List.{List, [], _∷_, _++_, reverse, reverse-reverse}
+use mathlib.Core.Path.{_≡_, sym, ap, _∙_, subst}
+use mathlib.Core.Bool.{true}
+use mathlib.Core.List.{_++_, reverse, reverse-reverse}
 use Prim.Native.Nat.{ℕ, suc, _+_, _≤_, _<_}
 use native.Mathlib.Omega.{arith}
-use lib.ListN.{length, getD, length-append}
+use lib.ListN.{length, getD}
 use Rattle.definition.specs.Words.{Word}
 use Rattle.definition.specs.Tries.{Failed}
 use Rattle.definition.specs.Kind.{Kind, kind}
@@ -13,7 +13,7 @@ use Rattle.definition.specs.Endings.{joined, endings, maqsuraIfFailed}
 use Rattle.definition.specs.Fronts.{Fronting, prefixStep4Verb}
 use Rattle.definition.specs.Finish.{finish}
 use Rattle.definition.specs.Stem.{cutting, fronting, stemOf, stem, cuts, chain, back, applied, front, head, run}
-use Rattle.definition.specs.Demand3.{HeadOf, InOrder, Change, ChangeAt, Plain, AllOf, isApplied, place, Demand3}
+use Rattle.definition.specs.Demand3.{InOrder, Change, Plain, AllOf, isApplied, place, Demand3}
 use Rattle.definition.proofs.Cutting.{in-turn}
 use Rattle.definition.proofs.Fronting.{Fourth, fourth, head-in}
 use Rattle.definition.proofs.Lengths.{head-short, maqsura-if-length}

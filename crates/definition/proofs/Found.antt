@@ -3,16 +3,16 @@ use mathlib.Core.Path.{_≡_, refl, sym, ap, _∙_, subst}
 use mathlib.Core.Bool.{Bool, true, false, false≢true}
 use mathlib.Core.Logic.{_⊎_, inl, inr}
 use mathlib.Core.List.{List, [], _∷_}
-use mathlib.Core.Option.{Option, none, some}
-use Prim.Native.Nat.{ℕ, zero, suc, _+_, _≤_, _<_}
+use mathlib.Core.Option.{none, some}
+use Prim.Native.Nat.{ℕ, zero, suc, _≤_, _<_}
 use native.Mathlib.Omega.{arith}
 use lib.Dec.{leb}
-use lib.ListN.{length, getD}
+use lib.ListN.{length}
 use borrow.Author.Tests.{leb-true, leb-false}
 use Rattle.definition.specs.Words.{Word, pick, both}
 use Rattle.definition.specs.Tables.{Row, Table}
 use Rattle.definition.specs.Search.{rowAt, longer, longest, Rule, guard, met, taken}
-use Rattle.definition.proofs.Match.{both-0, both-1, by}
+use Rattle.definition.proofs.Match.{both-0, both-1}
 
 -- r is a row that matches, or stands behind all rows
 abbrev pub Found : (Word → Bool) → Table → ℕ → Type 0

@@ -4,7 +4,7 @@ use mathlib.Core.Bool.{Bool, true, false, false≢true}
 use mathlib.Core.Logic.{_⊎_, inl, inr}
 use mathlib.Core.List.{List, [], _∷_, _++_, append-assoc, append-nil}
 use mathlib.Core.Option.{Option, none, some}
-use Prim.Native.Nat.{ℕ, zero, suc, _+_, _-_, _*_, _≤_, _<_, min}
+use Prim.Native.Nat.{ℕ, suc, _+_, _-_, _*_, _≤_, _<_, min}
 use native.Mathlib.Omega.{arith}
 use lib.Dec.{leb, eqb}
 use lib.ListN.{length, take, drop, getD, set, length-append, take-append-drop, List·getD-append}
@@ -13,8 +13,8 @@ use borrow.Author.Tests.{leb-true, eqb-true}
 use Rattle.definition.specs.Letters.{alef, teh, noon, yeh}
 use Rattle.definition.specs.Words.{Word, pick, both, same, beginsWith}
 use Rattle.definition.specs.Tables.{Row, «A_4», «A_5», «A_6», «A_7», «A_8», «A_9»}
-use Rattle.definition.specs.Search.{Rule, rowAt, guard, taken}
-use Rattle.definition.specs.Tries.{Try, done, failed, Step, after, _thenTry_, firstOf, attempt}
+use Rattle.definition.specs.Search.{rowAt, guard, taken}
+use Rattle.definition.specs.Tries.{after, _thenTry_, firstOf, attempt}
 use Rattle.definition.specs.Kind.{Kind, ifOpen}
 use Rattle.definition.specs.Fronts.{PrefixStep, prefixStep1, prefixStep2, prefixStep3aNoun, prefixStep3bNoun, prefixStep3Verb, prefixStep4Verb, prefix, replacements, notAt, Applied, frontRow, replacement, Fronting, text, passing, change, beginsWithAny, applyBy, applyUnless, apply, prefixSteps, started, fronts}
 use Rattle.definition.specs.Demand3.{at, unreplaced, toFront, frontOf, AtMostOne, unused, once, HeadOf, noHead, oneHead, Third, third-a, third-b, third-verb, InOrder, isApplied, place}

@@ -1,12 +1,12 @@
 -- No letter of a normalised word is a key of A_0, and no letter of a stem is one or one of 0622 to 0626. Assumes nothing.
 use mathlib.Core.Path.{_≡_, refl, sym, ap, _∙_, subst}
 use mathlib.Core.Bool.{Bool, true, false, false≢true, not}
-use mathlib.Core.Logic.{_⊎_, inl, inr}
+use mathlib.Core.Logic.{inl, inr}
 use mathlib.Core.List.{List, [], _∷_, _++_}
 use Prim.Native.Nat.{ℕ, zero, suc, _+_, _≤_, _<_}
 use native.Mathlib.Omega.{arith}
-use lib.Dec.{leb, eqb}
-use lib.ListN.{length, take, getD, length-append, List·getD-append}
+use lib.Dec.{leb}
+use lib.ListN.{length, take, getD, length-append}
 use borrow.Author.Tests.{leb-true, not-true}
 use Rattle.definition.specs.Letters.{hamza, alef, waw, yeh}
 use Rattle.definition.specs.Words.{Word, both, same, beginsWith}

@@ -1,7 +1,7 @@
 -- A step from states with P ends in states with Q where it succeeds, with R where it fails. Assumes nothing.
 use Prim.Native.Nat.{ℕ, zero, suc}
 use mathlib.Core.List.{List, [], _∷_}
-use Rattle.definition.specs.Tries.{Try, done, failed, Step, after, nothing, andThen, orElse, whileDone, _thenTry_, firstOf, again, attempt}
+use Rattle.definition.specs.Tries.{Try, done, failed, Step, after, andThen, orElse, whileDone, _thenTry_, firstOf, again, attempt}
 use Rattle.definition.specs.Kind.{Kind, OPEN, DEFINED, ifOpen}
 
 module _ {A : Type 0} where

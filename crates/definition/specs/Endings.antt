@@ -1,6 +1,5 @@
 -- Item 3: the endings, and the chain of the rows that are cut.
 use Prim.Native.Nat.{ℕ, _-_}
-use mathlib.Core.Bool.{Bool, true, false}
 use mathlib.Core.List.{List, [], _∷_, _++_}
 use mathlib.Core.Option.{Option, none, some}
 use lib.Dec.{eqb}
@@ -9,7 +8,7 @@ use Rattle.definition.specs.Letters.{alefMaksura, yeh}
 use Rattle.definition.specs.Words.{Word, pick, endsWith}
 use Rattle.definition.specs.Tables.{«A_10», «A_11», «A_12», «A_13», «A_14», «A_15», «A_16», «A_17», «A_18», «A_19», «A_20»}
 use Rattle.definition.specs.Search.{Rule, rule, rowAt, taken}
-use Rattle.definition.specs.Tries.{Step, Try, done, failed, after, nothing, _thenTry_, firstOf, again}
+use Rattle.definition.specs.Tries.{Step, Try, done, failed, nothing, _thenTry_, firstOf, again}
 use Rattle.definition.specs.Kind.{Kind, ifOpen}
 
 -- r_Suffix_Verb_Step1 to r_Suffix_Verb_Step2c, r_Suffix_Noun_Step1a to r_Suffix_Noun_Step3

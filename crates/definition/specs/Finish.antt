@@ -1,7 +1,6 @@
 -- Item 5: the last letter, and the other letters.
 use Prim.Native.Nat.{ℕ}
-use mathlib.Core.Bool.{Bool, true, false}
-use mathlib.Core.List.{List, [], _∷_}
+use mathlib.Core.List.{[], _∷_}
 use lib.Dec.{eqb, leb}
 use Rattle.definition.specs.Letters.{hamza, alefMadda, alefHamzaAbove, wawHamza, alefHamzaBelow, yehHamza, alef, waw, yeh}
 use Rattle.definition.specs.Words.{Word, pick, both}

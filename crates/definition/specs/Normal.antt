@@ -1,10 +1,10 @@
 -- Item 2: each letter of the word once; rows of A_0 delete or replace it, and a replacement is not read again.
 use Prim.Native.Nat.{ℕ, zero, suc}
-use mathlib.Core.List.{List, [], _∷_, _++_}
+use mathlib.Core.List.{[], _∷_, _++_}
 use lib.Dec.{eqb}
 use Rattle.definition.specs.Letters
 use Rattle.definition.specs.Words.{Word, pick, beginsWith}
-use Rattle.definition.specs.Tables.{Row, Table, one, two, «A_0»}
+use Rattle.definition.specs.Tables.{Table, one, two, «A_0»}
 use Rattle.definition.specs.Search.{rowAt, longest}
 
 -- What each class of A_0 gives. Classes 1 to 4 and 15 are not listed: their rows are deleted.

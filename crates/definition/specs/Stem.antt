@@ -1,6 +1,6 @@
 -- A word's way through items 1 to 5, and the words of demand 3.
-use Prim.Native.Nat.{ℕ, _-_}
-use mathlib.Core.List.{List, [], _∷_, reverse}
+use Prim.Native.Nat.{_-_}
+use mathlib.Core.List.{List, reverse}
 use lib.ListN.{length, take, drop}
 use Rattle.definition.specs.Words.{Word}
 use Rattle.definition.specs.Tries.{after}

@@ -1,23 +1,22 @@
 -- The row that the halving and the walk find is the definition's longest row; its class and its length. Assumes nothing.
 use mathlib.Core.Path.{_≡_, refl, sym, ap, _∙_, subst}
-use mathlib.Core.Bool.{Bool, true, false}
-use mathlib.Core.Logic.{_⊎_, inl, inr, ⊎-elim}
-use mathlib.Core.List.{List, [], _∷_, _++_, reverse}
+use mathlib.Core.Bool.{Bool, true}
+use mathlib.Core.Logic.{_⊎_, inl, inr}
+use mathlib.Core.List.{List, [], _∷_, reverse}
 use Prim.Native.Nat.{ℕ, zero, suc, _+_, _-_, _≤_, _<_}
 use native.Mathlib.Omega.{arith}
 use lib.Dec.{T, eqb, leb}
 use lib.ListN.{length, take, drop, getD, length-reverse, length-append}
 use borrow.Author.Tests.{eqb-true, eqb-false, eq-eqb, ne-eqb, leb-true}
 use Rattle.definition.specs.Words.{Word, both, same, beginsWith, endsWith}
-use Rattle.definition.specs.Tables.{Row, Table}
+use Rattle.definition.specs.Tables.{Table}
 use Rattle.definition.specs.Search.{rowAt, longest}
 use Rattle.definition.proofs.Match.{by, both-0, both-1, begins-split, ends-split}
 use Rattle.definition.proofs.Found.{Found, longest-found, row-behind, no-letters}
-use Rattle.definition.proofs.Found as search
 use Rattle.definition.proofs.Unique.{longest-at, longest-none}
-use Rattle.utf8.specs.Utf8.{Scalar, Scalars, encode}
+use Rattle.utf8.specs.Utf8.{Scalars, encode}
 use Rattle.utf8.specs.Places.{size}
-use Rattle.snowball.specs.Rows.{keys, keysBack, begins, none, wellFormed, rowsOf, byteTable, low, plain}
+use Rattle.snowball.specs.Rows.{keys, keysBack, begins, wellFormed, rowsOf, byteTable, low, plain}
 use Rattle.snowball.specs.Search.{between, behind, Halved, Walked}
 use Rattle.snowball.proofs.Order.{Begins, begins-true, true-begins}
 use Rattle.snowball.proofs.Table as table

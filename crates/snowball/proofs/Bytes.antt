@@ -1,18 +1,18 @@
 -- A search over the bytes of a text, among the rows' bytes, answers the row that the definition answers. Assumes nothing.
 use mathlib.Core.Path.{_≡_, refl, sym, ap, _∙_}
 use mathlib.Core.Bool.{Bool, true, false}
-use mathlib.Core.Logic.{_⊎_, inl, inr}
-use mathlib.Core.List.{List, [], _∷_, _++_, reverse, reverse-append, reverse-reverse}
+use mathlib.Core.Logic.{inl, inr}
+use mathlib.Core.List.{[], _∷_, _++_, reverse, reverse-append, reverse-reverse}
 use Prim.Native.Nat.{ℕ, zero, suc, _+_, _-_, _≤_, _<_}
 use native.Mathlib.Omega.{arith}
 use lib.Dec.{leb}
 use lib.ListN.{length, take, drop, length-append, take-append-drop}
 use borrow.Author.Tests.{leb-true, leb-false, le-leb, lt-leb}
-use Rattle.definition.specs.Words.{Word, pick, same, beginsWith, endsWith}
+use Rattle.definition.specs.Words.{Word, pick, beginsWith, endsWith}
 use Rattle.definition.specs.Tables.{Row, Table}
 use Rattle.definition.specs.Search.{rowAt, longer, longest}
 use Rattle.definition.proofs.Match.{by, same-eq, begins-split, begins-of, ends-split, ends-of}
-use Rattle.definition.proofs.Found.{Found, longest-found, no-letters}
+use Rattle.definition.proofs.Found.{Found, longest-found}
 use Rattle.utf8.specs.Utf8.{Scalars, encode}
 use Rattle.utf8.specs.Places.{size}
 use Rattle.utf8.proofs.Places.{size-append, size-mono, size-strict}

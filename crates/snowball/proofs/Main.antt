@@ -1,7 +1,7 @@
 -- What is shown of the searches and the environment beside the functions' contracts, each closed by the file that proves it. Assumes nothing.
 use mathlib.Core.Path.{_≡_}
-use mathlib.Core.List.{List, []}
-use Prim.Native.Nat.{ℕ, _≤_}
+use mathlib.Core.List.{List}
+use Prim.Native.Nat.{ℕ}
 use lib.Dec.{T}
 use lib.ListN.{length}
 use Rattle.definition.specs.Words.{Word, beginsWith, endsWith}

@@ -1,5 +1,5 @@
 -- A key at a place: byte by byte, and that bytes match just where letters do. Assumes nothing.
-use mathlib.Core.Path.{_≡_, refl, sym, ap, _∙_}
+use mathlib.Core.Path.{_≡_, sym, ap, _∙_}
 use Prim.Native.Nat.{ℕ, _+_, _-_, _≤_, _<_}
 use mathlib.Core.Bool.{Bool, true, false}
 use mathlib.Core.List.{List, _++_, append-assoc}
@@ -8,7 +8,7 @@ use lib.ListN.{length, take, drop, getD, length-append, length-drop, take-append
 use lib.Seq.{length-take-le, take-at, getD-take, getD-drop, length-slice, ext-getD}
 use borrow.Author.Tests.{lt-ltb, le-ltb}
 use Rattle.definition.specs.Words.{pick, same, beginsWith}
-use Rattle.definition.proofs.Match.{by, by-le, clash, same-refl, begins-split, begins-of}
+use Rattle.definition.proofs.Match.{by, by-le, clash, same-refl, begins-split}
 use Rattle.utf8.specs.Utf8.{Scalars, encode}
 use Rattle.utf8.specs.Places.{size, At}
 use Rattle.utf8.proofs.Matches.{front-bytes}

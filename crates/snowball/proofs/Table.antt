@@ -1,17 +1,15 @@
 -- What the test `wellFormed` says of a table. Assumes nothing.
 use mathlib.Core.Path.{_≡_, refl, sym, ap, _∙_, subst}
-use mathlib.Core.Logic.{_⊎_, inl, inr, ⊎-elim}
 use mathlib.Core.Bool.{Bool, true, false, not}
 use mathlib.Core.List.{List, [], _∷_}
-use Prim.Native.Nat.{ℕ, zero, suc, _+_, _≤_, _<_, zero-le, suc-le-suc}
+use Prim.Native.Nat.{ℕ, zero, suc, _+_, _≤_, _<_}
 use native.Mathlib.Nat.{le-of-suc-le-suc, not-suc-le-zero, add-zero, zero-add, add-suc, suc-add}
-use native.Mathlib.Omega.{arith}
 use lib.ListN.{length, getD}
 use lib.Dec.{T, leb, ltb, eqb, leb→le, ltb→lt, eqb→eq}
-use borrow.Author.Tests.{le-leb, lt-ltb, eqb-true, eqb-false, eq-eqb, ne-eqb}
+use borrow.Author.Tests.{lt-ltb, eq-eqb, ne-eqb}
 use Rattle.definition.specs.Words.{pick, both}
 use Rattle.snowball.specs.Rows.{before, begins, all, rising, proper, none, linkIs, linked, sized, ordered, wellFormed}
-use Rattle.snowball.proofs.Order.{bool-case, Begins, begins-true, true-begins}
+use Rattle.snowball.proofs.Order.{Begins, begins-true, true-begins}
 
 both-left : (a b : Bool) → T (both a b) → T a
 both-left true b t = tt

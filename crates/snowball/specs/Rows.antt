@@ -1,5 +1,5 @@
 -- Tables in the code: rows of six bytes beside their lengths, links and classes. The test that a table passes, and the definition's table that it stands for.
-use Prim.Native.Nat.{ℕ, zero, suc, _≤_}
+use Prim.Native.Nat.{ℕ, suc}
 use mathlib.Core.Bool.{Bool, true, false, not}
 use mathlib.Core.List.{List, [], _∷_, reverse}
 use lib.ListN.{length, take, getD}

@@ -1,8 +1,8 @@
 -- A match of whole letters at a letter boundary is a match of their bytes, in front and at the end. Assumes nothing.
 use mathlib.Core.Path.{_≡_, refl, sym, ap, _∙_}
 use mathlib.Core.Bool.{Bool, true, false}
-use mathlib.Core.List.{List, [], _∷_, _++_, append-nil}
-use Prim.Native.Nat.{ℕ, _-_}
+use mathlib.Core.List.{[], _∷_, append-nil}
+use Prim.Native.Nat.{_-_}
 use lib.ListN.{length, take, drop}
 use Rattle.definition.specs.Words.{Word, beginsWith, endsWith}
 use Rattle.definition.proofs.Match.{begins-split, begins-of, ends-split, ends-of}

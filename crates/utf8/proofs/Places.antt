@@ -1,20 +1,19 @@
 -- Places in a text and in its bytes. Assumes nothing.
 use mathlib.Core.Path.{_≡_, refl, sym, ap, _∙_, subst}
 use Prim.Native.Nat.{ℕ, zero, suc, _+_, _-_, _≤_, _<_}
-use mathlib.Core.Bool.{Bool, true, false}
-use mathlib.Core.Logic.{_⊎_, inl, inr, ⊎-elim}
-use mathlib.Core.List.{List, [], _∷_, _++_, append-assoc, append-nil}
+use mathlib.Core.Bool.{true, false}
+use mathlib.Core.Logic.{_⊎_, ⊎-elim}
+use mathlib.Core.List.{List, [], _∷_, _++_, append-assoc}
 use native.Mathlib.Omega.{arith}
 use native.Mathlib.Numerals.{add-one}
-use lib.Dec.{leb, ltb}
-use lib.ListN.{length, take, drop, getD, length-append, take-append-drop, length-take, length-drop, List·getD-append}
-use lib.Seq.{take-at, drop-at, length-take-le, drop-cons, getD-append-seam, getD-append-add, getD-take, take-suc, take-take, take-length, take-add}
-use borrow.Author.Tests.{ltb-true, ltb-false, leb-true, leb-false, lt-ltb, le-ltb, le-leb, lt-leb}
-use Rattle.definition.specs.Words.{pick}
-use Rattle.utf8.specs.Utf8.{Scalars, encode1, encode}
+use lib.Dec.{ltb}
+use lib.ListN.{length, take, drop, getD, length-append, take-append-drop, List·getD-append}
+use lib.Seq.{take-at, drop-at, drop-cons, getD-append-seam, getD-append-add, getD-take, take-suc, take-take}
+use borrow.Author.Tests.{lt-ltb, le-ltb, le-leb, lt-leb}
+use Rattle.utf8.specs.Utf8.{encode1, encode}
 use Rattle.utf8.specs.Places.{starts, leads, size, At, NextStart, LastStart}
 use Rattle.definition.proofs.Match.{by, by-le, clash}
-use Rattle.utf8.proofs.Text.{Lead, Conts, Shape, shape, encode1-pos, encode-append, encode-one}
+use Rattle.utf8.proofs.Text.{Lead, Conts, shape, encode1-pos, encode-append, encode-one}
 use Rattle.utf8.proofs.Starts.{leads-append}
 
 -- ---- a cut at a place

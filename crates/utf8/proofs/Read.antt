@@ -1,7 +1,7 @@
 -- The state that `well_formed` keeps, against the state that decodes. Assumes nothing.
-use mathlib.Core.Path.{_≡_, refl, sym, ap, _∙_, subst}
+use mathlib.Core.Path.{_≡_, refl, sym, ap, _∙_}
 use Prim.Native.Nat.{ℕ, zero, suc, _+_, _-_, _*_, _≤_, _<_}
-use mathlib.Core.Bool.{Bool, true, false}
+use mathlib.Core.Bool.{false}
 use mathlib.Core.List.{List, [], _∷_}
 use mathlib.Core.Option.{Option, none, some, Option·map}
 use native.Mathlib.Omega.{arith}
@@ -9,9 +9,8 @@ use native.Mathlib.Numerals.{add-one}
 use lib.Dec.{leb}
 use lib.ListN.{length, drop, getD, drop-of-length-le}
 use lib.Seq.{drop-cons}
-use borrow.Author.Tests.{leb-true, leb-false, le-leb, lt-leb}
-use Rattle.definition.specs.Words.{pick}
-use Rattle.utf8.specs.Utf8.{State, whole, more, bad, first, filled, step, onto, run, decode, isSome, wellFormed}
+use borrow.Author.Tests.{le-leb, lt-leb}
+use Rattle.utf8.specs.Utf8.{State, whole, more, bad, filled, step, onto, run, isSome, wellFormed}
 use Rattle.utf8.specs.Reading.{forget, left, nextOf, isWhole}
 use Rattle.utf8.specs.declared.Reading.{Reading}
 use Rattle.utf8.specs.declared.Reading.the-variants.{Whole, More, Bad}

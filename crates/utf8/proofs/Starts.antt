@@ -1,15 +1,14 @@
 -- Walks over bytes that look for the starts of characters. Assumes nothing.
-use mathlib.Core.Path.{_≡_, refl, sym, ap, _∙_, subst}
-use Prim.Native.Nat.{ℕ, zero, suc, _+_, _-_, _≤_, _<_}
-use mathlib.Core.Bool.{Bool, true, false}
+use mathlib.Core.Path.{_≡_, refl}
+use Prim.Native.Nat.{ℕ, _+_, _-_, _≤_, _<_}
+use mathlib.Core.Bool.{true, false}
 use mathlib.Core.List.{List, [], _∷_, _++_}
 use native.Mathlib.Omega.{arith}
 use native.Mathlib.Numerals.{add-one}
-use lib.Dec.{leb, ltb}
-use lib.ListN.{length, take, drop, getD}
+use lib.Dec.{leb}
+use lib.ListN.{length, take, getD}
 use lib.Seq.{take-suc}
-use borrow.Author.Tests.{ltb-true, ltb-false, leb-true, leb-false, lt-ltb, le-ltb}
-use Rattle.definition.specs.Words.{pick}
+use borrow.Author.Tests.{lt-ltb, le-ltb}
 use Rattle.utf8.specs.Places.{starts, leads}
 use Rattle.definition.proofs.Match.{by, by-le}
 

@@ -1,15 +1,15 @@
 -- Encoded texts: what decodes is one, a text is its bytes' only one, and where bytes match at a character's start, characters match. Assumes nothing.
 use mathlib.Core.Path.{_≡_, refl, sym, ap, _∙_, subst}
-use Prim.Native.Nat.{ℕ, zero, suc, _+_, _-_, _*_, _/_, _%_, _≤_, _<_}
-use mathlib.Core.Bool.{Bool, true, false}
+use Prim.Native.Nat.{ℕ, zero, suc, _+_, _-_, _≤_, _<_}
+use mathlib.Core.Bool.{true}
 use mathlib.Core.Logic.{_⊎_, inl, inr, ⊎-elim}
-use mathlib.Core.List.{List, [], _∷_, _++_, append-assoc, append-nil, head-eq-of-cons-eq, tail-eq-of-cons-eq, cons-ne-nil, nil≢cons, cons≢nil}
-use mathlib.Core.Option.{Option, none, some, Option·map, Option·none-ne-some, Option·some-injective}
+use mathlib.Core.List.{List, [], _∷_, _++_, append-assoc, append-nil, head-eq-of-cons-eq, tail-eq-of-cons-eq, nil≢cons, cons≢nil}
+use mathlib.Core.Option.{Option, none, some, Option·some-injective}
 use native.Mathlib.Omega.{arith}
-use lib.ListN.{length, take, drop, getD, length-append}
+use lib.ListN.{length, length-append}
 use Rattle.definition.proofs.Match.{by-le}
-use Rattle.utf8.specs.Utf8.{Scalar, Scalars, encode1, encode, State, whole, more, bad, first, filled, step, onto, run, decode, isSome, wellFormed}
-use Rattle.utf8.proofs.Utf8.{encode1-1, encode1-2, encode1-3, encode1-4, decode-append, decode-encode, Head, head, append?, append?-inv}
+use Rattle.utf8.specs.Utf8.{Scalars, encode1, encode, run, decode, isSome, wellFormed}
+use Rattle.utf8.proofs.Utf8.{encode1-1, encode1-2, encode1-3, encode1-4, decode-append, decode-encode, Head, head, append?-inv}
 
 -- ---- the bytes of one character: a lead byte, and then continuation bytes
 

@@ -1,17 +1,15 @@
 -- The laws of UTF-8. Assumes nothing.
-use mathlib.Core.Path.{_≡_, refl, sym, ap, _∙_, subst}
-use Prim.Native.Nat.{ℕ, zero, suc, _+_, _-_, _*_, _/_, _%_, _≤_, _<_}
-use mathlib.Core.Bool.{Bool, true, false}
+use mathlib.Core.Path.{_≡_, refl, sym, ap, _∙_}
+use Prim.Native.Nat.{ℕ, suc, _+_, _-_, _*_, _/_, _%_, _≤_, _<_}
 use mathlib.Core.Logic.{_⊎_, inl, inr, ⊎-elim}
 use mathlib.Core.List.{List, [], _∷_, _++_, append-assoc, append-nil}
 use mathlib.Core.Option.{Option, none, some, Option·map, Option·none-ne-some, Option·some-injective}
 use native.Mathlib.Omega.{arith}
-use lib.Dec.{ltb, leb, eqb}
-use lib.ListN.{length, take, drop, getD, length-append}
-use borrow.Author.Tests.{ltb-true, ltb-false, leb-true, leb-false, eqb-true, eqb-false, lt-ltb, le-ltb, le-leb, lt-leb, eq-eqb, ne-eqb}
+use lib.Dec.{leb, eqb}
+use borrow.Author.Tests.{leb-true, eqb-true, eqb-false, lt-ltb, le-ltb, le-leb, lt-leb}
 use Rattle.definition.specs.Words.{pick}
 use Rattle.definition.proofs.Match.{by, by-le}
-use Rattle.utf8.specs.Utf8.{Scalar, Scalars, encode1, encode, State, whole, more, bad, first, filled, step, onto, run, decode, isSome, wellFormed}
+use Rattle.utf8.specs.Utf8.{Scalar, Scalars, encode1, encode, State, whole, more, bad, first, filled, step, onto, run, decode}
 
 -- ---- tests
 

@@ -1,5 +1,5 @@
 -- The proof of the cycle of calls {walk}. The measure is the row's number: a link goes to a smaller one. Assumes nothing.
-use mathlib.Core.Path.{_≡_, subst}
+use mathlib.Core.Path.{subst}
 use Prim.Native.Nat.{ℕ, _≤_, _<_}
 use native.Mathlib.Omega.{arith}
 use borrow.Author.Needs.{needs}

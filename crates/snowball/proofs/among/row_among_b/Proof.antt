@@ -1,8 +1,7 @@
 -- `among::row_among_b` meets its contract: the halving and the walk find the longest row. Assumes nothing.
-use mathlib.Core.Path.{_≡_, sym, _∙_, subst}
+use mathlib.Core.Path.{sym, _∙_, subst}
 use Prim.Native.Nat.{ℕ, _<_}
 use native.Mathlib.Omega.{arith}
-use lib.ListN.{length}
 use Rattle.snowball.specs.Rows.{keysBack}
 use Rattle.snowball.proofs.Table.{Table, in-table}
 use Rattle.snowball.proofs.Answers.{row-behind-is}
