@@ -1,0 +1,85 @@
+-- What the entries answer for the bytes of a word and an output of so many bytes, and what the output holds afterwards.
+use Prim.Native.Nat.{ℕ}
+use mathlib.Core.Path.{_≡_}
+use mathlib.Core.Bool.{not}
+use mathlib.Core.List.{List, [], _++_}
+use mathlib.Core.Option.{Option, none, some}
+use lib.Dec.{ltb}
+use lib.ListN.{length, take, drop}
+use Rattle.utf8.specs.Utf8.{encode, decode, wellFormed}
+use Rattle.definition.specs.Words.{Word, pick}
+use Rattle.definition.specs.Kind.{OPEN, kind}
+use Rattle.definition.specs.Stem.{stem}
+use Rattle.definition.specs.Demand3.{Demand3}
+use Rattle.arabic.specs.Kinds.{flags}
+use Rattle.stemmer.specs.declared.Answer.{Answer}
+use Rattle.stemmer.specs.declared.Answer.the-variants.{Done, TooLong, NotWellFormed, NoRoom}
+use Rattle.stemmer.specs.declared.KindAnswer.{KindAnswer}
+
+-- document 01's code and count of an answer
+abbrev pub codeOf : Answer → ℕ
+codeOf (Done n) = 0
+codeOf TooLong = 1
+codeOf NotWellFormed = 2
+codeOf NoRoom = 3
+
+abbrev pub countOf : Answer → ℕ
+countOf (Done n) = n
+countOf TooLong = 0
+countOf NotWellFormed = 0
+countOf NoRoom = 0
+
+-- the letters of a word's bytes, none where they are not well formed
+abbrev pub orNone : Option Word → Word
+orNone none = []
+orNone (some w) = w
+
+unfoldable pub letters : List ℕ → Word
+letters word = orNone (decode word)
+
+-- the bytes of what f makes of a word's letters: f is stem, normalise or finish
+unfoldable pub bytesOf : (Word → Word) → List ℕ → List ℕ
+bytesOf f word = encode (f (letters word))
+
+-- a result of n bytes, for an output of room bytes
+unfoldable pub fitting : ℕ → ℕ → Answer
+fitting n room = pick (ltb room n) NoRoom (Done n)
+
+-- document 01's table: the three checks in their order
+unfoldable pub answer : (Word → Word) → List ℕ → ℕ → Answer
+answer f word room =
+    pick (ltb 255 (length word)) TooLong
+    (pick (not (wellFormed word)) NotWellFormed
+    (fitting (length (bytesOf f word)) room))
+
+-- every byte of the output after an answer: the result in front and the old bytes behind, or the old bytes alone
+unfoldable pub outAfter : Answer → List ℕ → List ℕ → List ℕ
+outAfter (Done n) result old = result ++ drop n old
+outAfter TooLong result old = old
+outAfter NotWellFormed result old = old
+outAfter NoRoom result old = old
+
+-- the result as a part of its own, empty on refusal
+unfoldable pub partAfter : Answer → List ℕ → List ℕ
+partAfter (Done n) result = result
+partAfter TooLong result = []
+partAfter NotWellFormed result = []
+partAfter NoRoom result = []
+
+-- the kind entry: the same first two checks, and open on refusal
+unfoldable pub kindAnswer : List ℕ → KindAnswer
+kindAnswer word =
+    pick (ltb 255 (length word)) (record { code = 1; kind = flags OPEN })
+    (pick (not (wellFormed word)) (record { code = 2; kind = flags OPEN })
+    (record { code = 0; kind = flags (kind (letters word)) }))
+
+-- the stem entry
+abbrev pub stemBytes : List ℕ → List ℕ
+stemBytes = bytesOf stem
+
+abbrev pub stemAnswer : List ℕ → ℕ → Answer
+stemAnswer = answer stem
+
+-- demand 3, of the letters that stand in front of the output after an answer with code 0
+abbrev pub Demand3After : List ℕ → Answer → List ℕ → Type 0
+Demand3After word a new = (w : Word) → decode word ≡ some w → codeOf a ≡ 0 → (s : Word) × ((take (countOf a) new ≡ encode s) × Demand3 w s)

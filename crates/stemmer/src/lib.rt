@@ -1,0 +1,147 @@
+use arabic::kind::Kind;
+use arabic::kind::kind_of;
+use arabic::normalize::r_Normalize_pre;
+use arabic::stem::finish_letters;
+use snowball::env::Env;
+use utf8::well_formed;
+ghost use mathlib.Core.Path.{_≡_};
+ghost use mathlib.Core.List.{_++_};
+ghost use Prim.Native.Nat.{_≤_, _<_};
+ghost use lib.ListN.{length, take, drop};
+ghost use Rattle.definition.specs.Normal.{normalise};
+ghost use Rattle.definition.specs.Finish.{finish};
+ghost use Rattle.definition.specs.Stem.{stem};
+ghost use Rattle.stemmer.specs.Entries.{codeOf, bytesOf, fitting, answer, outAfter, partAfter, kindAnswer, Demand3After};
+
+// What an entry with an output answers. Done has the number of bytes that it wrote, from the front of the output on; a
+// refusal leaves the output as it was.
+pub enum Answer {
+    Done(usize),
+    TooLong,
+    NotWellFormed,
+    NoRoom,
+}
+
+// What the kind entry answers: code 0, 1 or 2, and the kind, which is open with codes 1 and 2.
+pub struct KindAnswer {
+    pub code: u32,
+    pub kind: Kind,
+}
+
+// The most bytes that a word has.
+pub const LONGEST: usize = 255;
+
+// Copies the first n bytes of text to the front of out. The bytes of out behind them stay.
+fn copy_front(text: &[u8], n: usize, out: &mut [u8])
+    requires { ⌜ (n ≤ length (now text)) × (n ≤ length (now out)) ⌝ }
+    ensures { λ _. ⌜ now (out .exit) ≡ take n (now (text .entry)) ++ drop n (now (out .entry)) ⌝ }
+{
+    let mut i = 0;
+    while i < n {
+        out[i] = text[i];
+        i += 1;
+    }
+}
+
+// Writes the first n bytes of text to the front of out, if out has room for them.
+fn deliver(text: &[u8], n: usize, out: &mut [u8]) -> Answer
+    requires { ⌜ n ≤ length (now text) ⌝ }
+    ensures { λ r. ⌜ r ≡ fitting n (length (now (out .entry))) ⌝ }
+    ensures { λ r. ⌜ now (out .exit) ≡ outAfter r (take n (now (text .entry))) (now (out .entry)) ⌝ }
+{
+    if n > out.len() {
+        return Answer::NoRoom;
+    }
+    copy_front(text, n, out);
+    Answer::Done(n)
+}
+
+// The stem of the word. An output of 340 bytes is always long enough.
+pub fn stem(word: &[u8], out: &mut [u8]) -> Answer
+    ensures { λ r. ⌜ r ≡ answer stem (now (word .entry)) (length (now (out .entry))) ⌝ }
+    ensures { λ r. ⌜ now (out .exit) ≡ outAfter r (bytesOf stem (now (word .entry))) (now (out .entry)) ⌝ }
+    ensures { λ r. ⌜ Demand3After (now (word .entry)) r (now (out .exit)) ⌝ }
+    ensures { λ r. ⌜ (codeOf r ≡ 3 → length (now (out .entry)) < 340) ⌝ }
+{
+    if word.len() > LONGEST {
+        return Answer::TooLong;
+    }
+    if well_formed(word) {
+        let env = Env::create(word);
+        let s = arabic::stem::stem(env);
+        let e = s.env;
+        let limit = e.limit;
+        return deliver(&e.current, limit, out);
+    }
+    Answer::NotWellFormed
+}
+
+// The stem of the word as the front part of the output, and an empty part on refusal. It gives no code.
+pub fn stem_part<'a>(word: &[u8], out: &'a mut [u8]) -> &'a mut [u8]
+    ensures { λ r. ⌜ now r ≡ partAfter (answer stem (now (word .entry)) (length (now (out .entry)))) (bytesOf stem (now (word .entry))) ⌝ }
+    ensures { λ r. ⌜ r .ptr ≡ out .entry .ptr ⌝ }
+{
+    let a = stem(word, out);
+    match a {
+        Answer::Done(count) => &mut out[..count],
+        Answer::TooLong => &mut out[..0],
+        Answer::NotWellFormed => &mut out[..0],
+        Answer::NoRoom => &mut out[..0],
+    }
+}
+
+// The word normalised: item 2 alone. An output of 340 bytes is always long enough.
+pub fn normalise(word: &[u8], out: &mut [u8]) -> Answer
+    ensures { λ r. ⌜ r ≡ answer normalise (now (word .entry)) (length (now (out .entry))) ⌝ }
+    ensures { λ r. ⌜ now (out .exit) ≡ outAfter r (bytesOf normalise (now (word .entry))) (now (out .entry)) ⌝ }
+    ensures { λ r. ⌜ (codeOf r ≡ 3 → length (now (out .entry)) < 340) ⌝ }
+{
+    if word.len() > LONGEST {
+        return Answer::TooLong;
+    }
+    if well_formed(word) {
+        let env = Env::create(word);
+        let e = r_Normalize_pre(env);
+        let limit = e.limit;
+        return deliver(&e.current, limit, out);
+    }
+    Answer::NotWellFormed
+}
+
+// The word finished: item 5 on the word as given. An output of 340 bytes is always long enough.
+pub fn finish(word: &[u8], out: &mut [u8]) -> Answer
+    ensures { λ r. ⌜ r ≡ answer finish (now (word .entry)) (length (now (out .entry))) ⌝ }
+    ensures { λ r. ⌜ now (out .exit) ≡ outAfter r (bytesOf finish (now (word .entry))) (now (out .entry)) ⌝ }
+    ensures { λ r. ⌜ (codeOf r ≡ 3 → length (now (out .entry)) < 340) ⌝ }
+{
+    if word.len() > LONGEST {
+        return Answer::TooLong;
+    }
+    if well_formed(word) {
+        let env = Env::create(word);
+        let e = finish_letters(env);
+        let limit = e.limit;
+        return deliver(&e.current, limit, out);
+    }
+    Answer::NotWellFormed
+}
+
+// The kind of the word: item 1.
+pub fn kind(word: &[u8]) -> KindAnswer
+    ensures { λ r. ⌜ r ≡ kindAnswer (now (word .entry)) ⌝ }
+{
+    if word.len() > LONGEST {
+        return KindAnswer {
+            code: 1,
+            kind: Kind::OPEN,
+        };
+    }
+    if well_formed(word) {
+        let kind = kind_of(word, word.len());
+        return KindAnswer { code: 0, kind };
+    }
+    KindAnswer {
+        code: 2,
+        kind: Kind::OPEN,
+    }
+}
