@@ -44,7 +44,7 @@ fn copy_front(text: &[u8], n: usize, out: &mut [u8])
 }
 
 // Writes the first n bytes of text to the front of out, if out has room for them.
-fn deliver(text: &[u8], n: usize, out: &mut [u8]) -> Answer
+pub fn deliver(text: &[u8], n: usize, out: &mut [u8]) -> Answer
     requires { ⌜ n ≤ length (now text) ⌝ }
     ensures { λ r. ⌜ r ≡ fitting n (length (now (out .entry))) ⌝ }
     ensures { λ r. ⌜ now (out .exit) ≡ outAfter r (take n (now (text .entry))) (now (out .entry)) ⌝ }

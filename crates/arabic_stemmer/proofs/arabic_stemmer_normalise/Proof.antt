@@ -1,0 +1,28 @@
+-- `arabic_stemmer_normalise` meets its contract: what `stemmer::normalise` promises, with its answer as numbers. Assumes nothing.
+use mathlib.Core.Path.{ap, _∙_}
+use borrow.Author.Needs.{needs}
+use Rattle.definition.specs.Normal.{normalise}
+use Rattle.stemmer.specs.declared.Answer.{Answer}
+use Rattle.stemmer.specs.Entries.{bytesOf, outAfter}
+use Rattle.arabic_stemmer.specs.Interface.{told}
+use Rattle.arabic_stemmer.proofs.arabic_stemmer_normalise.Statement.{statement}
+use Rattle.arabic_stemmer.proofs.arabic_stemmer_normalise.Tie as tie
+
+normalise-requires : tie.Need-normalise-requires
+normalise-requires c κs = search needs
+
+answer-of-requires : tie.Need-answer-of-requires
+answer-of-requires c κs = search needs
+
+same-length : tie.Need-same-length
+same-length c = search needs
+
+returns : tie.Need-returns
+returns c =
+    let s = c .before .before .before .normalise in
+    let a = c .before .before .before .before .before .before .before .args in
+    let o = s .ensures .1 .0 ∙ ap (λ (x : Answer). outAfter x (bytesOf normalise (a .word .now)) (a .out .now)) (s .ensures .0) in
+    (c .answer-of .ensures ∙ ap told (s .ensures .0), o)
+
+pub arabic-stemmer-normalise-spec : {M : Type 1} → statement M
+arabic-stemmer-normalise-spec = tie.close (tie.spec normalise-requires answer-of-requires same-length returns)

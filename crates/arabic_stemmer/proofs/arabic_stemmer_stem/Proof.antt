@@ -1,0 +1,28 @@
+-- `arabic_stemmer_stem` meets its contract: what `stemmer::stem` promises, with its answer as numbers. Assumes nothing.
+use mathlib.Core.Path.{ap, _∙_, subst}
+use borrow.Author.Needs.{needs}
+use Rattle.definition.specs.Stem.{stem}
+use Rattle.stemmer.specs.declared.Answer.{Answer}
+use Rattle.stemmer.specs.Entries.{bytesOf, outAfter, Demand3After}
+use Rattle.arabic_stemmer.specs.Interface.{told}
+use Rattle.arabic_stemmer.proofs.arabic_stemmer_stem.Statement.{statement}
+use Rattle.arabic_stemmer.proofs.arabic_stemmer_stem.Tie as tie
+
+stem-requires : tie.Need-stem-requires
+stem-requires c κs = search needs
+
+answer-of-requires : tie.Need-answer-of-requires
+answer-of-requires c κs = search needs
+
+same-length : tie.Need-same-length
+same-length c = search needs
+
+returns : tie.Need-returns
+returns c =
+    let s = c .before .before .before .stem in
+    let a = c .before .before .before .before .before .before .before .args in
+    let o = s .ensures .1 .0 ∙ ap (λ (x : Answer). outAfter x (bytesOf stem (a .word .now)) (a .out .now)) (s .ensures .0) in
+    (c .answer-of .ensures ∙ ap told (s .ensures .0), (o, subst (λ (x : Answer). Demand3After (a .word .now) x (s .last .1 .0)) (s .ensures .0) (s .ensures .1 .1 .0)))
+
+pub arabic-stemmer-stem-spec : {M : Type 1} → statement M
+arabic-stemmer-stem-spec = tie.close (tie.spec stem-requires answer-of-requires same-length returns)
