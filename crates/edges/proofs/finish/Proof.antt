@@ -1,0 +1,45 @@
+-- `finish` lends a part of its array. Assumes nothing.
+use mathlib.Core.Path.{sym}
+use native.Mathlib.Omega.{arith}
+use lib.Seq.{length-take-le}
+use borrow.Author.Needs.{needs}
+use Rattle.edges.proofs.finish.Statement.{statement}
+use Rattle.edges.proofs.finish.Tie as tie
+
+write-requires : tie.Need-write-requires
+write-requires c κs = search needs
+
+filled-requires : tie.Need-filled-requires
+filled-requires c κs = search needs
+
+array-borrow-prefix-out : tie.Need-array-borrow-prefix-out
+array-borrow-prefix-out c = search needs
+
+slice-aggregate-finish : tie.Need-slice-aggregate-finish
+slice-aggregate-finish c =
+    sym (length-take-le (c .before .before .before .before .before .args .room) (c .before .filled .result) (omega (arith, c .before .filled .ensures)))
+
+finish-requires : tie.Need-finish-requires
+finish-requires c κs = search needs
+
+write-answer-requires : tie.Need-write-answer-requires
+write-answer-requires c κs = search needs
+
+write-rest-requires : tie.Need-write-rest-requires
+write-rest-requires c κs = search needs
+
+returns : tie.Need-returns
+returns c = search needs
+
+pub finish-spec : {M : Type 1} → statement M
+finish-spec =
+    tie.close
+    (tie.spec
+    write-requires
+    filled-requires
+    array-borrow-prefix-out
+    slice-aggregate-finish
+    finish-requires
+    write-answer-requires
+    write-rest-requires
+    returns)

@@ -1,0 +1,45 @@
+-- `normalise` lends a part of its array. Assumes nothing.
+use mathlib.Core.Path.{sym}
+use native.Mathlib.Omega.{arith}
+use lib.Seq.{length-take-le}
+use borrow.Author.Needs.{needs}
+use Rattle.edges.proofs.normalise.Statement.{statement}
+use Rattle.edges.proofs.normalise.Tie as tie
+
+write-requires : tie.Need-write-requires
+write-requires c κs = search needs
+
+filled-requires : tie.Need-filled-requires
+filled-requires c κs = search needs
+
+array-borrow-prefix-out : tie.Need-array-borrow-prefix-out
+array-borrow-prefix-out c = search needs
+
+slice-aggregate-normalise : tie.Need-slice-aggregate-normalise
+slice-aggregate-normalise c =
+    sym (length-take-le (c .before .before .before .before .before .args .room) (c .before .filled .result) (omega (arith, c .before .filled .ensures)))
+
+normalise-requires : tie.Need-normalise-requires
+normalise-requires c κs = search needs
+
+write-answer-requires : tie.Need-write-answer-requires
+write-answer-requires c κs = search needs
+
+write-rest-requires : tie.Need-write-rest-requires
+write-rest-requires c κs = search needs
+
+returns : tie.Need-returns
+returns c = search needs
+
+pub normalise-spec : {M : Type 1} → statement M
+normalise-spec =
+    tie.close
+    (tie.spec
+    write-requires
+    filled-requires
+    array-borrow-prefix-out
+    slice-aggregate-normalise
+    normalise-requires
+    write-answer-requires
+    write-rest-requires
+    returns)
