@@ -128,46 +128,72 @@ fn ligatures() -> [u8; 255] {
     word
 }
 
-fn main() {
+// Words over 255 bytes.
+fn too_long() {
     let latin = [b'a'; 256];
-    let ligatures = ligatures();
-    let book = b"\xD8\xA7\xD9\x84\xD9\x83\xD8\xAA\xD8\xA7\xD8\xA8";
     stem(b"stem, 255 bytes of a: ", &latin[..255], 255);
     stem(b"stem, 256 bytes of a: ", &latin, 8);
     normalise(b"normalise, 256 bytes of a: ", &latin, 8);
     finish(b"finish, 256 bytes of a: ", &latin, 8);
     kind(b"kind, 255 bytes of a: ", &latin[..255]);
     kind(b"kind, 256 bytes of a: ", &latin);
-    normalise(b"normalise, 85 times FEFB: ", &ligatures, 340);
-    normalise(
-        b"normalise, 85 times FEFB, one byte short: ",
-        &ligatures,
-        339,
-    );
+    stem_part(b"part, 256 bytes of a: ", &latin, 8);
+}
+
+// Words that grow.
+fn growing() {
+    let word = ligatures();
+    normalise(b"normalise, 85 times FEFB: ", &word, 340);
+    normalise(b"normalise, 85 times FEFB, one byte short: ", &word, 339);
+}
+
+// Bytes that are not well formed.
+fn not_well_formed() {
     stem(b"stem, C0 80: ", b"\xC0\x80", 8);
     stem(b"stem, ED A0 80: ", b"\xED\xA0\x80", 8);
     stem(b"stem, ED A0 80, no room: ", b"\xED\xA0\x80", 0);
     normalise(b"normalise, C0 80: ", b"\xC0\x80", 8);
     finish(b"finish, C0 80: ", b"\xC0\x80", 8);
     kind(b"kind, C0 80: ", b"\xC0\x80");
-    stem(b"stem of 8 bytes, room for 8: ", book, 8);
-    stem(b"stem of 8 bytes, room for 7: ", book, 7);
-    stem(b"stem of 8 bytes, room for 16: ", book, 16);
-    normalise(b"normalise, room for 12: ", book, 12);
-    normalise(b"normalise, room for 11: ", book, 11);
+    stem_part(b"part, C0 80: ", b"\xC0\x80", 8);
+}
+
+// Results that just fit, or do not.
+fn rooms(word: &[u8]) {
+    stem(b"stem of 8 bytes, room for 8: ", word, 8);
+    stem(b"stem of 8 bytes, room for 7: ", word, 7);
+    stem(b"stem of 8 bytes, room for 16: ", word, 16);
+    normalise(b"normalise, room for 12: ", word, 12);
+    normalise(b"normalise, room for 11: ", word, 11);
     finish(b"finish, 0623, room for 2: ", b"\xD8\xA3", 2);
     finish(b"finish, 0623, room for 1: ", b"\xD8\xA3", 1);
-    kind(b"kind, defined: ", book);
+    kind(b"kind, defined: ", word);
+}
+
+// The part that is handed back.
+fn parts(word: &[u8]) {
+    stem_part(b"part, room for 8: ", word, 8);
+    stem_part(b"part, room for 16: ", word, 16);
+    stem_part(b"part, room for 7: ", word, 7);
+}
+
+// The empty word, and a word that becomes empty.
+fn empty() {
     stem(b"stem, empty word, no room: ", b"", 0);
     stem(b"stem, empty word, room for 4: ", b"", 4);
     normalise(b"normalise, empty word, no room: ", b"", 0);
     finish(b"finish, empty word, no room: ", b"", 0);
     kind(b"kind, empty word: ", b"");
-    stem(b"stem, a mark alone: ", b"!", 4);
-    stem_part(b"part, room for 8: ", book, 8);
-    stem_part(b"part, room for 16: ", book, 16);
-    stem_part(b"part, room for 7: ", book, 7);
-    stem_part(b"part, C0 80: ", b"\xC0\x80", 8);
-    stem_part(b"part, 256 bytes of a: ", &latin, 8);
     stem_part(b"part, empty word, no room: ", b"", 0);
+    stem(b"stem, a mark alone: ", b"!", 4);
+}
+
+fn main() {
+    let book = b"\xD8\xA7\xD9\x84\xD9\x83\xD8\xAA\xD8\xA7\xD8\xA8";
+    too_long();
+    growing();
+    not_well_formed();
+    rooms(book);
+    parts(book);
+    empty();
 }

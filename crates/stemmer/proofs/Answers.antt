@@ -49,13 +49,17 @@ taken f word room h e = rw (le-ltb 255 (length word) h, e) refl
 
 -- ---- refusals: the answer, and the old bytes
 module _ (f : Word → Word) (word old : List ℕ) where
-  pub long : 255 < length word → (TooLong ≡ answer f word (length old)) × (old ≡ outAfter TooLong (bytesOf f word) old)
-  unfolding outAfter
-  long h = (too-long f word (length old) h, refl)
+  out-by : (a : Answer) → a ≡ answer f word (length old) → outAfter a (bytesOf f word) old ≡ outAfter (answer f word (length old)) (bytesOf f word) old
+  out-by a e = ap (λ (x : Answer). outAfter x (bytesOf f word) old) e
 
-  pub malformed : length word ≤ 255 → wellFormed word ≡ false → (NotWellFormed ≡ answer f word (length old)) × (old ≡ outAfter NotWellFormed (bytesOf f word) old)
+  pub long : 255 < length word → (TooLong ≡ answer f word (length old)) × (old ≡ outAfter (answer f word (length old)) (bytesOf f word) old)
   unfolding outAfter
-  malformed h e = (not-well-formed f word (length old) h e, refl)
+  long h = (too-long f word (length old) h, out-by TooLong (too-long f word (length old) h))
+
+  pub malformed : length word ≤ 255 → wellFormed word ≡ false
+      → (NotWellFormed ≡ answer f word (length old)) × (old ≡ outAfter (answer f word (length old)) (bytesOf f word) old)
+  unfolding outAfter
+  malformed h e = (not-well-formed f word (length old) h e, out-by NotWellFormed (not-well-formed f word (length old) h e))
 
 -- ---- an accepted word
 module _ (word : List ℕ) (t : wellFormed word ≡ true) where
@@ -78,11 +82,11 @@ module _ (f : Word → Word) (word : List ℕ) (h : length word ≤ 255) (t : we
   result-bytes = ap (λ (w : Word). encode (f w)) (letters-of word t)
 
   pub delivered : (r : Answer) (old new : List ℕ) → r ≡ fitting (e .limit) (length old) → new ≡ outAfter r (take (e .limit) (e .current)) old
-      → (r ≡ answer f word (length old)) × (new ≡ outAfter r (bytesOf f word) old)
-  delivered r old new a o = (
-    a ∙ ap (λ (n : ℕ). fitting n (length old)) (st .sized ∙ ap length (sym result-bytes)) ∙ taken f word (length old) h t,
-    o ∙ ap (λ (bs : List ℕ). outAfter r bs old) (st .bytes ∙ sym result-bytes),
-  )
+      → (r ≡ answer f word (length old)) × (new ≡ outAfter (answer f word (length old)) (bytesOf f word) old)
+  delivered r old new a o =
+      let q : r ≡ answer f word (length old) =
+      a ∙ ap (λ (n : ℕ). fitting n (length old)) (st .sized ∙ ap length (sym result-bytes)) ∙ taken f word (length old) h t in
+      (q, o ∙ ap (λ (bs : List ℕ). outAfter r bs old) (st .bytes ∙ sym result-bytes) ∙ out-by f word old r q)
 
 -- ---- code 3 says that the output is shorter than the result
 pub no-room : (r : Answer) (n room : ℕ) → r ≡ fitting n room → n ≤ 340 → codeOf r ≡ 3 → room < 340
@@ -117,6 +121,9 @@ module _ (f : Word → Word) (word : List ℕ) (room n : ℕ) (e : answer f word
 pub done-count : (word : List ℕ) (room n : ℕ) → answer stem word room ≡ Done n → length (bytesOf stem word) ≡ n
 done-count = count-is stem
 
+pub over-long : (word : List ℕ) (room : ℕ) → 255 < length word → answer stem word room ≡ TooLong
+over-long word room h = sym (too-long stem word room h)
+
 pub done-fits : (word : List ℕ) (room n : ℕ) → answer stem word room ≡ Done n → n ≤ room
 done-fits = count-fits stem
 
@@ -132,12 +139,13 @@ front f word old NotWellFormed e z = absurd (omega arith)
 front f word old NoRoom e z = absurd (omega arith)
 
 -- demand 3, from the other two promises of the stem entry
-pub owed : (word old new : List ℕ) (a : Answer) → a ≡ answer stem word (length old) → new ≡ outAfter a (bytesOf stem word) old → Demand3After word a new
+pub owed : (word old new : List ℕ) (a : Answer) → a ≡ answer stem word (length old) → new ≡ outAfter (answer stem word (length old)) (bytesOf stem word) old
+    → Demand3After word a new
 unfolding bytesOf
 owed word old new a e o = λ w d z. (
   stem w,
   (
-    ap (take (countOf a)) o ∙ front stem word old a e z ∙ ap (λ (x : Word). encode (stem x)) (letters-are word w d),
+    ap (take (countOf a)) (o ∙ sym (out-by stem word old a e)) ∙ front stem word old a e z ∙ ap (λ (x : Word). encode (stem x)) (letters-are word w d),
     main-demand3 w,
   ),
 )

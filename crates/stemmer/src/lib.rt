@@ -59,7 +59,7 @@ pub fn deliver(text: &[u8], n: usize, out: &mut [u8]) -> Answer
 // The stem of the word. An output of 340 bytes is always long enough.
 pub fn stem(word: &[u8], out: &mut [u8]) -> Answer
     ensures { λ r. ⌜ r ≡ answer stem (now (word .entry)) (length (now (out .entry))) ⌝ }
-    ensures { λ r. ⌜ now (out .exit) ≡ outAfter r (bytesOf stem (now (word .entry))) (now (out .entry)) ⌝ }
+    ensures { λ r. ⌜ now (out .exit) ≡ outAfter (answer stem (now (word .entry)) (length (now (out .entry)))) (bytesOf stem (now (word .entry))) (now (out .entry)) ⌝ }
     ensures { λ r. ⌜ Demand3After (now (word .entry)) r (now (out .exit)) ⌝ }
     ensures { λ r. ⌜ (codeOf r ≡ 3 → length (now (out .entry)) < 340) ⌝ }
 {
@@ -93,7 +93,7 @@ pub fn stem_part<'a>(word: &[u8], out: &'a mut [u8]) -> &'a mut [u8]
 // The word normalised: item 2 alone. An output of 340 bytes is always long enough.
 pub fn normalise(word: &[u8], out: &mut [u8]) -> Answer
     ensures { λ r. ⌜ r ≡ answer normalise (now (word .entry)) (length (now (out .entry))) ⌝ }
-    ensures { λ r. ⌜ now (out .exit) ≡ outAfter r (bytesOf normalise (now (word .entry))) (now (out .entry)) ⌝ }
+    ensures { λ r. ⌜ now (out .exit) ≡ outAfter (answer normalise (now (word .entry)) (length (now (out .entry)))) (bytesOf normalise (now (word .entry))) (now (out .entry)) ⌝ }
     ensures { λ r. ⌜ (codeOf r ≡ 3 → length (now (out .entry)) < 340) ⌝ }
 {
     if word.len() > LONGEST {
@@ -111,7 +111,7 @@ pub fn normalise(word: &[u8], out: &mut [u8]) -> Answer
 // The word finished: item 5 on the word as given. An output of 340 bytes is always long enough.
 pub fn finish(word: &[u8], out: &mut [u8]) -> Answer
     ensures { λ r. ⌜ r ≡ answer finish (now (word .entry)) (length (now (out .entry))) ⌝ }
-    ensures { λ r. ⌜ now (out .exit) ≡ outAfter r (bytesOf finish (now (word .entry))) (now (out .entry)) ⌝ }
+    ensures { λ r. ⌜ now (out .exit) ≡ outAfter (answer finish (now (word .entry)) (length (now (out .entry)))) (bytesOf finish (now (word .entry))) (now (out .entry)) ⌝ }
     ensures { λ r. ⌜ (codeOf r ≡ 3 → length (now (out .entry)) < 340) ⌝ }
 {
     if word.len() > LONGEST {

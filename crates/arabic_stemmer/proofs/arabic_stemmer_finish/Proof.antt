@@ -2,8 +2,6 @@
 use mathlib.Core.Path.{ap, _∙_}
 use borrow.Author.Needs.{needs}
 use Rattle.definition.specs.Finish.{finish}
-use Rattle.stemmer.specs.declared.Answer.{Answer}
-use Rattle.stemmer.specs.Entries.{bytesOf, outAfter}
 use Rattle.arabic_stemmer.specs.Interface.{told}
 use Rattle.arabic_stemmer.proofs.arabic_stemmer_finish.Statement.{statement}
 use Rattle.arabic_stemmer.proofs.arabic_stemmer_finish.Tie as tie
@@ -21,8 +19,7 @@ returns : tie.Need-returns
 returns c =
     let s = c .before .before .before .finish in
     let a = c .before .before .before .before .before .before .before .args in
-    let o = s .ensures .1 .0 ∙ ap (λ (x : Answer). outAfter x (bytesOf finish (a .word .now)) (a .out .now)) (s .ensures .0) in
-    (c .answer-of .ensures ∙ ap told (s .ensures .0), o)
+    (c .answer-of .ensures ∙ ap told (s .ensures .0), s .ensures .1 .0)
 
 pub arabic-stemmer-finish-spec : {M : Type 1} → statement M
 arabic-stemmer-finish-spec = tie.close (tie.spec finish-requires answer-of-requires same-length returns)

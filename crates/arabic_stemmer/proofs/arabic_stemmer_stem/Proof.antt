@@ -3,7 +3,7 @@ use mathlib.Core.Path.{ap, _∙_, subst}
 use borrow.Author.Needs.{needs}
 use Rattle.definition.specs.Stem.{stem}
 use Rattle.stemmer.specs.declared.Answer.{Answer}
-use Rattle.stemmer.specs.Entries.{bytesOf, outAfter, Demand3After}
+use Rattle.stemmer.specs.Entries.{Demand3After}
 use Rattle.arabic_stemmer.specs.Interface.{told}
 use Rattle.arabic_stemmer.proofs.arabic_stemmer_stem.Statement.{statement}
 use Rattle.arabic_stemmer.proofs.arabic_stemmer_stem.Tie as tie
@@ -21,8 +21,7 @@ returns : tie.Need-returns
 returns c =
     let s = c .before .before .before .stem in
     let a = c .before .before .before .before .before .before .before .args in
-    let o = s .ensures .1 .0 ∙ ap (λ (x : Answer). outAfter x (bytesOf stem (a .word .now)) (a .out .now)) (s .ensures .0) in
-    (c .answer-of .ensures ∙ ap told (s .ensures .0), (o, subst (λ (x : Answer). Demand3After (a .word .now) x (s .last .1 .0)) (s .ensures .0) (s .ensures .1 .1 .0)))
+    (c .answer-of .ensures ∙ ap told (s .ensures .0), (s .ensures .1 .0, subst (λ (x : Answer). Demand3After (a .word .now) x (s .last .1 .0)) (s .ensures .0) (s .ensures .1 .1 .0)))
 
 pub arabic-stemmer-stem-spec : {M : Type 1} → statement M
 arabic-stemmer-stem-spec = tie.close (tie.spec stem-requires answer-of-requires same-length returns)

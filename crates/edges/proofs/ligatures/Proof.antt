@@ -1,7 +1,6 @@
 -- `ligatures` is safe and ends. Assumes nothing.
-use Prim.Native.Nat.{_-_, _≤_, _*_}
+use Prim.Native.Nat.{_-_, _≤_}
 use native.Mathlib.Omega.{arith}
-use lib.ListN.{length}
 use Rattle.edges.proofs.ligatures.Statement.{statement}
 use Rattle.edges.proofs.ligatures.Tie as tie
 

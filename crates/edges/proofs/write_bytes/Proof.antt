@@ -1,5 +1,5 @@
 -- `write_bytes` is safe and ends. Assumes nothing.
-use Prim.Native.Nat.{_-_, _≤_, _*_}
+use Prim.Native.Nat.{_-_, _≤_}
 use native.Mathlib.Omega.{arith}
 use lib.ListN.{length}
 use Rattle.edges.proofs.write_bytes.Statement.{statement}

@@ -50,7 +50,7 @@ returns c =
     let a = c .before .before .before .before .before .before .before .before .before .before .args in
     let s = c .before .before .before .before .before .before .stem in
     let g = c .before .before .a .given in (
-      ap (take (g .0 .0)) (s .ensures .1 .0 ∙ ap (λ (x : Answer). outAfter x (bytesOf stem (a .word .now)) (a .out .now)) (g .1))
+      ap (take (g .0 .0)) (s .ensures .1 .0 ∙ ap (λ (x : Answer). outAfter x (bytesOf stem (a .word .now)) (a .out .now)) (sym (s .ensures .0) ∙ g .1))
           ∙ part-done stem (a .word .now) (a .out .now) (g .0 .0) (sym (s .ensures .0) ∙ g .1),
       refl,
     )
