@@ -1,0 +1,65 @@
+/* The Arabic stemmer of rust-stemmers 1.2.0, proved. Link libarabic_stemmer.a, which ./build-library writes.
+ *
+ * Every function ends, allocates nothing and keeps no state: calls from several threads need no lock as long as
+ * their outputs do not overlap. A word is any bytes and is only read. Pointers must not be null, also where the
+ * length is 0; word and output must not overlap. */
+#ifndef ARABIC_STEMMER_H
+#define ARABIC_STEMMER_H
+
+#include <stddef.h>
+#include <stdint.h>
+
+#ifdef __cplusplus
+extern "C" {
+#endif
+
+/* The most bytes that a word may have. */
+#define ARABIC_STEMMER_LONGEST_WORD 255
+
+/* An output of so many bytes is long enough for every result. */
+#define ARABIC_STEMMER_ROOM 340
+
+/* Codes. With a code other than 0 the count is 0, the kind is open, and the output has its old bytes. */
+#define ARABIC_STEMMER_DONE 0            /* the result stands in front of the output */
+#define ARABIC_STEMMER_TOO_LONG 1        /* the word has more than 255 bytes: cut it, or leave it out */
+#define ARABIC_STEMMER_NOT_WELL_FORMED 2 /* the word is not well-formed UTF-8: convert it first */
+#define ARABIC_STEMMER_NO_ROOM 3         /* the result is longer than the output: lend 340 bytes */
+
+/* Kinds. */
+#define ARABIC_STEMMER_OPEN 0    /* noun or verb */
+#define ARABIC_STEMMER_DEFINED 1 /* a noun with its article */
+
+/* A code, and how many bytes of the output the result has. */
+typedef struct {
+    uint32_t code;
+    size_t count;
+} arabic_stemmer_answer;
+
+/* A code, and a kind. */
+typedef struct {
+    uint32_t code;
+    uint32_t kind;
+} arabic_stemmer_kind_answer;
+
+/* The stem of the word: with code 0 its bytes stand in front of the output, and the bytes behind the count are the
+ * old ones. A word of marks or punctuation alone has an empty stem, with code 0 and count 0. */
+arabic_stemmer_answer arabic_stemmer_stem(const uint8_t *word, size_t word_length, uint8_t *output, size_t output_length);
+
+/* The word normalised, with nothing cut: marks and punctuation deleted, digits and presentation forms replaced. */
+arabic_stemmer_answer arabic_stemmer_normalise(const uint8_t *word, size_t word_length, uint8_t *output, size_t output_length);
+
+/* The word as given with its letters alef, waw and yeh freed of hamza and madda: the stemmer's last step alone. */
+arabic_stemmer_answer arabic_stemmer_finish(const uint8_t *word, size_t word_length, uint8_t *output, size_t output_length);
+
+/* Whether the word is defined. Codes are 0, 1 and 2; there is no output. */
+arabic_stemmer_kind_answer arabic_stemmer_kind(const uint8_t *word, size_t word_length);
+
+/* The version of the library and the edition whose stems it gives, as ASCII text with no zero behind it. Codes are 0
+ * and 3; ARABIC_STEMMER_ROOM bytes are enough. */
+arabic_stemmer_answer arabic_stemmer_version(uint8_t *output, size_t output_length);
+
+#ifdef __cplusplus
+}
+#endif
+
+#endif
