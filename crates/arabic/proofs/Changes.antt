@@ -7,7 +7,7 @@ use Prim.Native.Nat.{ℕ, zero, suc, _≤_, _<_}
 use native.Mathlib.Omega.{arith}
 use lib.Dec.{eqb, leb}
 use lib.ListN.{length, getD}
-use borrow.Author.Tests.{eqb-true, leb-true, leb-false, le-leb, lt-leb}
+use borrow.Author.Tests.{eqb-true, leb-true, leb-false, le-leb, lt-leb, ne-eqb}
 use Rattle.utf8.specs.Utf8.{Scalar, Scalars, encode1, encode}
 use Rattle.definition.specs.Letters.{hamza, alef, waw, yeh}
 use Rattle.definition.specs.Words.{Word, pick, beginsWith, endsWith}
@@ -32,6 +32,19 @@ last-above c h = rw (le-leb 0x622 c (omega arith), lt-leb c 0x626 h) refl
 last-in : (c : ℕ) → 0x622 ≤ c → c ≤ 0x626 → last c ≡ 0x621
 unfolding last
 last-in c h k = rw (le-leb 0x622 c h, le-leb c 0x626 k) refl
+
+other-none : (c : ℕ) → (c ≡ 0x622 → ⊥) → (c ≡ 0x623 → ⊥) → (c ≡ 0x624 → ⊥) → (c ≡ 0x625 → ⊥) → (c ≡ 0x626 → ⊥) → other c ≡ c
+unfolding other
+other-none c a b d e f = rw (ne-eqb c 0x622 a, ne-eqb c 0x623 b, ne-eqb c 0x624 d, ne-eqb c 0x625 e, ne-eqb c 0x626 f) refl
+
+-- a letter before 0622 or behind 0626 stays
+pub stays-below : (ending : Bool) (c : ℕ) → c < 0x622 → c ≡ changed ending c
+stays-below true c h = sym (last-below c h)
+stays-below false c h = sym (other-none c (λ e. omega arith) (λ e. omega arith) (λ e. omega arith) (λ e. omega arith) (λ e. omega arith))
+
+pub stays-above : (ending : Bool) (c : ℕ) → 0x626 < c → c ≡ changed ending c
+stays-above true c h = sym (last-above c h)
+stays-above false c h = sym (other-none c (λ e. omega arith) (λ e. omega arith) (λ e. omega arith) (λ e. omega arith) (λ e. omega arith))
 
 -- ---- by the rows: k is the class of the row of A_1 or A_2 that the letter is
 

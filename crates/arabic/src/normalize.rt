@@ -282,11 +282,18 @@ fn other_of(text: &[u8], cursor: usize, end: usize, c: u32) -> u32
     }
 }
 
-// What r_Normalize_post makes of the letter c, whose bytes lie from cursor to end.
+// What r_Normalize_post makes of the letter c, whose bytes lie from cursor to end. The rows of A_1 and A_2 are the letters 0622 to
+// 0626; any other stays, with no search.
 fn changed_of(text: &[u8], cursor: usize, end: usize, c: u32, ending: bool) -> u32
     requires { ⌜ LetterFrom (now text) cursor end c ⌝ }
     ensures { λ r. ⌜ r ≡ changed ending c ⌝ }
 {
+    if c < 0x622 {
+        return c;
+    }
+    if c > 0x626 {
+        return c;
+    }
     if ending {
         return last_of(text, cursor, end, c);
     }
