@@ -1,6 +1,6 @@
 use snowball::among::find_among_b;
 use snowball::env::Env;
-use snowball::env::count_chars;
+use snowball::env::has_chars;
 ghost use mathlib.Core.Path.{_≡_};
 ghost use mathlib.Core.Bool.{true};
 ghost use Prim.Native.Nat.{_≤_};
@@ -62,11 +62,11 @@ pub fn ending(
     if class == 0 {
         return limit;
     }
-    let letters = count_chars(text, limit);
-    if letters < least_letters(guards, class) {
-        return limit;
+    let least = least_letters(guards, class);
+    if has_chars(text, limit, least) {
+        return f.cursor;
     }
-    f.cursor
+    limit
 }
 
 // Deletes the ending that begins at the place, if there is one; otherwise the step fails and leaves the environment as it was.

@@ -4,7 +4,7 @@ use crate::endings::wide;
 use snowball::among::Found;
 use snowball::among::find_among;
 use snowball::env::Env;
-use snowball::env::count_chars;
+use snowball::env::has_chars;
 ghost use mathlib.Core.Path.{_≡_};
 ghost use mathlib.Core.Bool.{true, false};
 ghost use Prim.Native.Nat.{_≤_};
@@ -42,11 +42,11 @@ pub fn front_row(
     if class == 0 {
         return Found { class: 0, cursor };
     }
-    let letters = count_chars(text, limit);
-    if letters < least_letters(guards, class) {
-        return Found { class: 0, cursor };
+    let least = least_letters(guards, class);
+    if has_chars(text, limit, least) {
+        return f;
     }
-    f
+    Found { class: 0, cursor }
 }
 
 // Replaces the row at the cursor by what stands for its class, and the cursor goes behind it. With class 0 the step fails.

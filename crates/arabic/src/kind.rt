@@ -4,7 +4,7 @@ use crate::tables::A_3_LENS;
 use crate::tables::A_3_LINKS;
 use crate::tables::A_3_ROWS;
 use snowball::among::find_among;
-use snowball::env::count_chars;
+use snowball::env::has_chars;
 ghost use mathlib.Core.Path.{_≡_};
 ghost use lib.ListN.{take};
 ghost use Rattle.definition.specs.Words.{Word};
@@ -52,9 +52,9 @@ pub fn kind_of(text: &[u8], limit: usize) -> Kind
     if class == 0 {
         return Kind::OPEN;
     }
-    let letters = count_chars(text, limit);
-    if letters < least_letters(&[5, 4], class) {
-        return Kind::OPEN;
+    let least = least_letters(&[5, 4], class);
+    if has_chars(text, limit, least) {
+        return Kind::DEFINED;
     }
-    Kind::DEFINED
+    Kind::OPEN
 }

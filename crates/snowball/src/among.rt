@@ -259,6 +259,9 @@ fn row_among(
     let p = halve(text, cursor, limit, rows, lens);
     let row = p.row;
     let common = p.common;
+    if wide(lens[row]) <= common {
+        return row;
+    }
     walk(row, common, lens, links)
 }
 
@@ -279,6 +282,9 @@ fn row_among_b(
     let p = halve_b(text, cursor, limit_backward, rows, lens);
     let row = p.row;
     let common = p.common;
+    if wide(lens[row]) <= common {
+        return row;
+    }
     walk(row, common, lens, links)
 }
 

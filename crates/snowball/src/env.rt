@@ -3,6 +3,7 @@ ghost use mathlib.Core.List.{List, []};
 ghost use mathlib.Core.Bool.{true};
 ghost use Prim.Native.Nat.{ℕ, _+_, _-_, _<_, _≤_};
 ghost use lib.ListN.{length, take, getD};
+ghost use lib.Dec.{leb};
 ghost use lib.Seq.{paste, slice};
 ghost use Rattle.utf8.specs.Utf8.{Scalars, encode};
 ghost use Rattle.utf8.specs.Places.{starts, leads, NextStart, LastStart};
@@ -66,6 +67,27 @@ pub fn count_chars(text: &[u8], limit: usize) -> usize
         i += 1;
     }
     n
+}
+
+// Whether the first limit bytes encode at least so many letters: what a guard asks of chars().count(), with no byte read behind the last
+// letter that it needs.
+pub fn has_chars(text: &[u8], limit: usize, least: usize) -> bool
+    requires { ⌜ limit ≤ length (now text) ⌝ }
+    ensures { λ r. ⌜ ((cs : List ℕ) → take limit (now (text .entry)) ≡ encode cs → r ≡ leb least (length cs)) ⌝ }
+    ensures { λ r. ⌜ r ≡ leb least (leads (take limit (now (text .entry)))) ⌝ }
+{
+    let mut n: usize = 0;
+    let mut i = 0;
+    while n < least {
+        if i >= limit {
+            return false;
+        }
+        if is_start(text[i]) {
+            n += 1;
+        }
+        i += 1;
+    }
+    true
 }
 
 // The loop of the Rust's next_char: the next place behind the cursor where a letter starts, or limit.

@@ -1,13 +1,13 @@
 -- Walks over bytes that look for the starts of characters. Assumes nothing.
-use mathlib.Core.Path.{_≡_, refl}
+use mathlib.Core.Path.{_≡_, refl, ap}
 use Prim.Native.Nat.{ℕ, _+_, _-_, _≤_, _<_}
 use mathlib.Core.Bool.{true, false}
 use mathlib.Core.List.{List, [], _∷_, _++_}
 use native.Mathlib.Omega.{arith}
 use native.Mathlib.Numerals.{add-one}
 use lib.Dec.{leb}
-use lib.ListN.{length, take, getD}
-use lib.Seq.{take-suc}
+use lib.ListN.{length, take, drop, getD}
+use lib.Seq.{take-suc, take-add}
 use borrow.Author.Tests.{lt-ltb, le-ltb}
 use Rattle.utf8.specs.Places.{starts, leads}
 use Rattle.definition.proofs.Match.{by, by-le}
@@ -31,6 +31,12 @@ leads-append (b ∷ x) y =
     by (starts b)
     (λ e. rw (e, leads-append x y) (omega arith))
     (λ e. rw (e, leads-append x y) refl)
+
+-- more bytes start no fewer letters
+pub leads-more : (a : List ℕ) (i k : ℕ) → i ≤ k → leads (take i a) ≤ leads (take k a)
+leads-more a i k h =
+    let m : k ≡ i + (k - i) = omega arith in
+    omega (arith, ap (λ (n : ℕ). leads (take n a)) m, ap leads (take-add i (k - i) a), leads-append (take i a) (take (k - i) (drop i a)))
 
 module _ (a : List ℕ) (i n : ℕ) (h : i < length a) (e : n ≡ leads (take i a)) where
   next : leads (take (i + 1) a) ≡ leads (take i a) + leads (getD a i 0 ∷ [])

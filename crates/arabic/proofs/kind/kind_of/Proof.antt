@@ -1,5 +1,7 @@
 -- `kind::kind_of` meets its contract: its table is A_3, with its guards. Assumes nothing.
-use mathlib.Core.Path.{refl, _∙_}
+use mathlib.Core.Path.{refl, sym, _∙_}
+use lib.ListN.{length}
+use borrow.Author.Tests.{leb-true, leb-false}
 use borrow.Author.Needs.{needs}
 use Rattle.definition.specs.Tables.{«A_3»}
 use Rattle.utf8.specs.Utf8.{encode1, encode}
@@ -31,36 +33,38 @@ returns c =
     λ w sc e.
     no-row w 0 (f .find-among .result) (f .find-among .ensures .1 «A_3» refl refl w sc (from-start (a .text .now) (a .limit) ∙ e)) (c .if1 .taken)
 
-count-chars-requires : tie.Need-count-chars-requires
-count-chars-requires c κs = search needs
-
 slice-aggregate-least-letters : tie.Need-slice-aggregate-least-letters
 slice-aggregate-least-letters c = search needs
 
 least-letters-requires : tie.Need-least-letters-requires
 least-letters-requires c κs = search needs
 
+has-chars-requires : tie.Need-has-chars-requires
+has-chars-requires c κs = search needs
+
 returns-2 : tie.Need-returns-2
 unfolding «A_3» encode encode1
 returns-2 c =
-    let l = c .before in
-    let n = l .before .before in
-    let f = n .before .before in
+    let h = c .before in
+    let l = h .before in
+    let f = l .before .before .before in
     let a = f .before .before .before .before .before .before .args in
     λ w sc e.
-    too-short w 0 (f .find-among .result) (f .find-among .ensures .1 «A_3» refl refl w sc (from-start (a .text .now) (a .limit) ∙ e)) (n .before .if1 .left)
-    (n .count-chars .result) (l .least-letters .result) (n .count-chars .ensures .0 w e) (l .least-letters .ensures) (c .if2 .taken)
+    long-enough w 0 (f .find-among .result) (f .find-among .ensures .1 «A_3» refl refl w sc (from-start (a .text .now) (a .limit) ∙ e)) (l .before .before .if1 .left)
+    (length w) (l .least-letters .result) refl (l .least-letters .ensures)
+    (leb-true (l .least-letters .result) (length w) (sym (h .has-chars .ensures .0 w e) ∙ c .if2 .taken))
 
 returns-3 : tie.Need-returns-3
 unfolding «A_3» encode encode1
 returns-3 c =
-    let l = c .before in
-    let n = l .before .before in
-    let f = n .before .before in
+    let h = c .before in
+    let l = h .before in
+    let f = l .before .before .before in
     let a = f .before .before .before .before .before .before .args in
     λ w sc e.
-    long-enough w 0 (f .find-among .result) (f .find-among .ensures .1 «A_3» refl refl w sc (from-start (a .text .now) (a .limit) ∙ e)) (n .before .if1 .left)
-    (n .count-chars .result) (l .least-letters .result) (n .count-chars .ensures .0 w e) (l .least-letters .ensures) (c .if2 .left)
+    too-short w 0 (f .find-among .result) (f .find-among .ensures .1 «A_3» refl refl w sc (from-start (a .text .now) (a .limit) ∙ e)) (l .before .before .if1 .left)
+    (length w) (l .least-letters .result) refl (l .least-letters .ensures)
+    (leb-false (l .least-letters .result) (length w) (sym (h .has-chars .ensures .0 w e) ∙ c .if2 .left))
 
 pub kind-of-spec : {M : Type 1} → statement M
 kind-of-spec =
@@ -72,8 +76,8 @@ kind-of-spec =
     slice-aggregate-find-among-4
     find-among-requires
     returns
-    count-chars-requires
     slice-aggregate-least-letters
     least-letters-requires
+    has-chars-requires
     returns-2
     returns-3)
