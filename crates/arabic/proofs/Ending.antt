@@ -1,29 +1,28 @@
 -- The steps that cut an ending: one law over the table and the guards. Assumes nothing.
 use mathlib.Core.Path.{_≡_, refl, sym, ap, _∙_, subst}
-use mathlib.Core.Bool.{true, false}
-use mathlib.Core.List.{[], _∷_, _++_, append-nil}
+use mathlib.Core.Bool.{not}
+use mathlib.Core.List.{List, [], _∷_, _++_, append-nil}
 use mathlib.Core.Option.{Option, none, some}
 use Prim.Native.Nat.{ℕ, _+_, _-_, _≤_, _<_}
 use native.Mathlib.Omega.{arith}
-use lib.ListN.{length, take, drop, length-append}
-use lib.Seq.{take-length, length-take-le, drop-length}
+use lib.Dec.{eqb}
+use lib.ListN.{length, take, length-append}
+use lib.Seq.{take-length, length-take-le, take-take, take-at}
+use borrow.Author.Tests.{eq-eqb, ne-eqb}
 use Rattle.definition.specs.Words.{Word, endsWith}
 use Rattle.definition.specs.Search.{rowAt, longest, guard, taken}
 use Rattle.definition.specs.Endings.{SuffixStep, suffix, Cutting, ending, cutOff, cutBy, cut}
 use Rattle.definition.proofs.Match.{ends-split}
 use Rattle.definition.proofs.Found.{taken-some}
 use Rattle.definition.proofs.Cutting.{row-some}
-use Rattle.utf8.specs.Utf8.{encode}
-use Rattle.utf8.specs.Places.{size, At}
-use Rattle.utf8.proofs.Text.{encode1-pos}
+use Rattle.utf8.specs.Utf8.{Scalars, encode}
+use Rattle.utf8.specs.Places.{size}
+use Rattle.utf8.proofs.Text.{encode1-pos, encode-append, scalars-left}
 use Rattle.utf8.proofs.Places.{size-append}
 use Rattle.snowball.specs.declared.env.Env.{Env}
 use Rattle.snowball.specs.declared.among.Found.{Found}
 use Rattle.snowball.specs.Search.{Behind}
-use Rattle.snowball.specs.Chars.{Chars, sliceFrom}
-use Rattle.snowball.specs.Cut.{moved}
-use Rattle.snowball.specs.Stands.{Stands}
-use Rattle.snowball.proofs.Cut.{moved-behind}
+use Rattle.snowball.specs.Stands.{Stands, Standing}
 use Rattle.arabic.specs.Endings.{atEnd, Ends, Gives, placeBy, endingAt}
 use Rattle.arabic.proofs.Guarded.{no-class, too-few, enough}
 
@@ -52,6 +51,32 @@ size-some : (w : Word) → 1 ≤ length w → 1 ≤ size w
 unfolding encode
 size-some [] h = absurd (omega arith)
 size-some (c ∷ w) h = let e = encode1-pos c in rw (length-append (Rattle.utf8.specs.Utf8.encode1 c) (encode w)) (omega arith)
+
+-- the letters u in front of a text, with the cursor at their end
+module _ {current : List ℕ} {limit cursor behind : ℕ} {t : Word} (u k : Word) (split : t ≡ u ++ k) (st : Standing current limit cursor behind (atEnd t)) where
+  no-letters : take 0 t ≡ take 0 u
+  no-letters = go t u
+    where
+      go : (a b : Word) → take 0 a ≡ take 0 b
+      go [] [] = refl
+      go [] (c ∷ b) = refl
+      go (c ∷ a) [] = refl
+      go (c ∷ a) (d ∷ b) = refl
+
+  shortened : (place : ℕ) → place ≡ size u → Standing current place place behind (atEnd u)
+  shortened place e =
+      let l : size t ≡ size u + size k = ap size split ∙ size-append u k in
+      record {
+        scalars = scalars-left u k (subst Scalars split (st .scalars));
+        bytes =
+            sym (take-take place limit current (omega (arith, st .sized)))
+            ∙ ap (take place) (st .bytes ∙ ap encode split ∙ encode-append u k)
+            ∙ take-at (encode u) (encode k) place (sym e);
+        sized = e;
+        within = omega (arith, st .sized, st .within);
+        cursor = (omega arith, e ∙ ap size (sym (take-length u)));
+        back = (omega arith, st .back .1 ∙ ap size no-letters);
+      }
 
 -- ---- the cut
 module _ (s : SuffixStep) (v : Cutting) (x : Env) (st : Ends x v) (place : ℕ) (at : place ≡ endingAt s (v .text) (x .limit)) where
@@ -94,35 +119,27 @@ module _ (s : SuffixStep) (v : Cutting) (x : Env) (st : Ends x v) (place : ℕ) 
     unfolding m key
     inside = let l = lengths in omega (arith, begins, l .2, st .sized, size-some key (l .1))
 
-  gives-none : taken (endsWith (v .text)) (suffix s) (length (v .text)) ≡ none → Gives (record { found = false; env = x }) (cut s v)
-  unfolding cut
-  gives-none q = subst (Gives (record { found = false; env = x })) (ap (cutBy s v) (sym q)) (record { found = refl; env = st })
-
-  pub not-cut : place ≡ x .limit → Gives (record { found = false; env = x }) (cut s v)
-  not-cut h = go (taken (endsWith (v .text)) (suffix s) (length (v .text))) refl
-    where
-      go : (o : Option ℕ) → taken (endsWith (v .text)) (suffix s) (length (v .text)) ≡ o → Gives (record { found = false; env = x }) (cut s v)
-      go none q = gives-none q
-      go (some r) q = absurd (omega (arith, inside r q))
-
-  -- y is x with the ending cut off
-  module _ (y : Env) (sl : (c : Chars) → Stands x c → (b k : ℕ) → At (c .text) b place → At (c .text) k (x .cursor) → c .back ≤ b → Stands y (sliceFrom c b k [])) where
-    cut-stands : (r : ℕ) (q : taken (endsWith (v .text)) (suffix s) (length (v .text)) ≡ some r) → Ends y (cutOff v (record { step = s; row = r }))
-    unfolding cutOff ending m key
-    cut-stands r q =
-        let l = lengths r q in
-        let n : ℕ = m r q in
-        let text : (take n t ++ []) ++ drop (length t) t ≡ take n t =
-        ap (λ (z : Word). (take n t ++ []) ++ z) (drop-length t) ∙ append-nil (take n t ++ []) ∙ append-nil (take n t) in
-        let mv : moved (length t) n (length t) 0 ≡ length (take n t) =
-        sym (moved-behind (length t) n (length t) 0 (omega arith)) ∙ (let z : length t - (length t - n) + 0 ≡ length (take n t) = omega (arith, l .0, l .3) in z) in
-        subst (Stands y) (λ i. record { text = text i; cursor = mv i; back = 0 })
-        (sl (atEnd t) st n (length t) (omega (arith, l .0, l .3), begins r q) (st .cursor) (omega arith))
-
-    pub is-cut : (place ≡ x .limit → ⊥) → Gives (record { found = true; env = y }) (cut s v)
+  -- the environment that a cut at the place leaves; bra and ket do not matter
+  module _ (y : Env) (is : (u : Word) → Standing (x .current) place place (x .«limit_backward») (atEnd u) → Stands y (atEnd u)) where
+    gives-none : taken (endsWith (v .text)) (suffix s) (length (v .text)) ≡ none → Gives (record { found = not (eqb place (x .limit)); env = y }) (cut s v)
     unfolding cut endingAt
-    is-cut h = go (taken (endsWith (v .text)) (suffix s) (length (v .text))) refl
+    gives-none q =
+        let e : place ≡ x .limit = at ∙ ap (placeBy s (x .limit)) q in
+        subst (Gives (record { found = not (eqb place (x .limit)); env = y })) (ap (cutBy s v) (sym q))
+        (record { found = ap not (eq-eqb place (x .limit) e); env = is t (shortened t [] (sym (append-nil t)) st place (e ∙ st .sized)) })
+
+    gives-some : (r : ℕ) → taken (endsWith (v .text)) (suffix s) (length (v .text)) ≡ some r → Gives (record { found = not (eqb place (x .limit)); env = y }) (cut s v)
+    unfolding cut cutOff ending m key
+    gives-some r q =
+        subst (Gives (record { found = not (eqb place (x .limit)); env = y })) (ap (cutBy s v) (sym q))
+        (record {
+          found = ap not (ne-eqb place (x .limit) (λ e. omega (arith, inside r q)));
+          env = is (take (m r q) t) (shortened (take (m r q) t) (key r q) (split r q) st place (begins r q));
+        })
+
+    pub cuts : Gives (record { found = not (eqb place (x .limit)); env = y }) (cut s v)
+    cuts = go (taken (endsWith (v .text)) (suffix s) (length (v .text))) refl
       where
-        go : (o : Option ℕ) → taken (endsWith (v .text)) (suffix s) (length (v .text)) ≡ o → Gives (record { found = true; env = y }) (cut s v)
-        go none q = absurd (h (at ∙ ap (placeBy s (x .limit)) q))
-        go (some r) q = subst (Gives (record { found = true; env = y })) (ap (cutBy s v) (sym q)) (record { found = refl; env = cut-stands r q })
+        go : (o : Option ℕ) → taken (endsWith (v .text)) (suffix s) (length (v .text)) ≡ o → Gives (record { found = not (eqb place (x .limit)); env = y }) (cut s v)
+        go none q = gives-none q
+        go (some r) q = gives-some r q

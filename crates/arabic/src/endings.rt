@@ -69,20 +69,17 @@ pub fn ending(
     limit
 }
 
-// Deletes the ending that begins at the place, if there is one; otherwise the step fails and leaves the environment as it was.
+// Deletes the ending that begins at the place: what slice_del does at the end of the text, where no byte moves. Where the place is that
+// end the step fails, and the text is as it was.
 pub fn cut_ending(env: Env, place: usize) -> Tried
     requires { ⌜ Ready env × (place ≤ env .limit) ⌝ }
     ensures { λ r. ⌜ ((s : SuffixStep) (v : Cutting) → Ends env v → place ≡ endingAt s (v .text) (env .limit) → Gives r (cut s v)) ⌝ }
 {
-    if place == env.limit {
-        return Tried { found: false, env };
-    }
+    let found = place != env.limit;
     let mut e = env;
-    e.ket = e.cursor;
+    e.ket = e.limit;
     e.bra = place;
-    let d = e.slice_del();
-    Tried {
-        found: true,
-        env: d,
-    }
+    e.limit = place;
+    e.cursor = place;
+    Tried { found, env: e }
 }
