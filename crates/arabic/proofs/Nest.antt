@@ -1,10 +1,10 @@
 -- The laws of a branch in a nest of alternatives, whatever an environment stands for. Assumes nothing.
-use mathlib.Core.Path.{_≡_, refl, sym, ap, _∙_}
+use mathlib.Core.Path.{_≡_, refl, sym, _∙_}
 use mathlib.Core.Bool.{true, false, false≢true}
 use mathlib.Core.List.{[], _∷_}
 use lib.ListN.{length}
-use Rattle.definition.specs.Tries.{Try, done, failed, Step, after, andThen, orElse, nothing, _thenTry_, attempt, again}
-use Rattle.definition.specs.Endings.{Cutting, cut, verbStep1, verbStep2a, verbStep2b, verbStep2c, nounStep1a, nounStep1b, nounStep2a, nounStep2b, nounStep2c1, nounStep2c2, nounStep3, verb, noun, endings, suffixAllAlefMaqsura, maqsuraIfFailed}
+use Rattle.definition.specs.Tries.{Try, done, failed, Step, after, andThen, orElse, nothing, _thenTry_, attempt, again, firstOf}
+use Rattle.definition.specs.Endings.{Cutting, cut, verbStep1, verbStep2a, verbStep2b, verbStep2c, nounStep1a, nounStep1b, nounStep2a, nounStep2b, nounStep2c1, nounStep3, verb, noun, endings, suffixAllAlefMaqsura, maqsuraIfFailed}
 use Rattle.definition.specs.Words.{Word}
 use Rattle.definition.specs.Fronts.{Fronting, prefixStep1, prefixStep2, prefixStep3aNoun, prefixStep3bNoun, prefixStep3Verb, prefixStep4Verb, apply, prefixSteps}
 use Rattle.definition.specs.Kind.{Kind, OPEN, DEFINED, ifOpen}
@@ -15,7 +15,7 @@ use Rattle.arabic.specs.declared.endings.Tried.{Tried}
 use Rattle.arabic.specs.Tried.{Answers}
 use Rattle.arabic.specs.Endings.{atEnd, Ready, Gives, Given}
 use Rattle.arabic.specs.Fronts.{ReadyFront, GivenFront}
-use Rattle.arabic.specs.Nests.{afterStep1, afterStep1a, afterStep1b, byStep1a, byStep1b, verbSteps, uncut}
+use Rattle.arabic.specs.Nests.{afterStep1, afterStep1a, afterStep1b, byStep1a, byStep1b, nounFirst, verbSteps, uncut}
 
 pub ready : (t : Tried) → Given t → Ready (t .env)
 ready t g = (after (g .0), g .1 .env)
@@ -67,12 +67,15 @@ pub by-step1b-is : (v : Cutting) → andThen (cut nounStep1b v) afterStep1b ≡ 
 unfolding byStep1b _thenTry_
 by-step1b-is v = refl
 
-pub noun-is : (k : Kind) (v : Cutting)
-    → andThen (orElse (orElse (orElse (orElse (orElse (cut nounStep2c2 v) (byStep1a k)) byStep1b) (ifOpen k (cut nounStep2a))) (cut nounStep2b)) nothing) (cut nounStep3) ≡ noun k v
-unfolding noun byStep1a byStep1b afterStep1a afterStep1b _thenTry_
-noun-is k v =
-    ap (λ (t : Try Cutting). andThen t (cut nounStep3))
-    (sym (first-from (cut nounStep2c2) (byStep1a k ∷ byStep1b ∷ ifOpen k (cut nounStep2a) ∷ cut nounStep2b ∷ nothing ∷ []) v))
+pub noun-is : (k : Kind) (v : Cutting) → andThen (nounFirst k v) (cut nounStep3) ≡ noun k v
+unfolding noun nounFirst byStep1a byStep1b afterStep1a afterStep1b _thenTry_
+noun-is k v = refl
+
+-- the last alternative is nothing
+pub last-nothing : {A : Type 0} (y : Try A) → orElse y nothing ≡ orElse y (firstOf (nothing ∷ []))
+unfolding firstOf
+last-nothing (done a) = refl
+last-nothing (failed a) = refl
 
 -- a step that is not for this word
 pub not-open : {A : Type 0} {S : Env → A → Type 0} (t : Tried) (f : Step A) → t .found ≡ false → (y : Try A) → Answers S t y → Answers S t (orElse y (ifOpen DEFINED f))

@@ -5,7 +5,7 @@ use Rattle.definition.specs.Tries.{Step, nothing, _thenTry_, firstOf, attempt}
 use Rattle.definition.specs.Kind.{Kind, OPEN, DEFINED, ifOpen}
 use Rattle.definition.specs.Words.{Word}
 use Rattle.definition.specs.Fronts.{Fronting, prefixStep3Verb, prefixStep4Verb, apply}
-use Rattle.definition.specs.Endings.{Cutting, cut, verbStep2a, verbStep2c, nounStep1a, nounStep1b, nounStep2a, nounStep2b, nounStep2c1}
+use Rattle.definition.specs.Endings.{Cutting, cut, verbStep2a, verbStep2c, nounStep1a, nounStep1b, nounStep2a, nounStep2b, nounStep2c1, nounStep2c2}
 
 -- the kind by the Rust's b_is_defined
 abbrev pub kindOf : Bool → Kind
@@ -29,6 +29,10 @@ byStep1a k = ifOpen k (cut nounStep1a thenTry afterStep1a)
 
 unfoldable pub byStep1b : Step Cutting
 byStep1b = cut nounStep1b thenTry afterStep1b
+
+-- the noun's alternatives, without the Step3 behind them
+unfoldable pub nounFirst : Kind → Step Cutting
+nounFirst k = firstOf (cut nounStep2c2 ∷ byStep1a k ∷ byStep1b ∷ ifOpen k (cut nounStep2a) ∷ cut nounStep2b ∷ nothing ∷ [])
 
 -- the verb's part of item 4
 unfoldable pub verbSteps : Step Fronting

@@ -8,24 +8,15 @@ use crate::suffixes::r_Suffix_Noun_Step2c2;
 use crate::suffixes::r_Suffix_Noun_Step3;
 use crate::verb::or_nothing;
 use snowball::env::Env;
+ghost use mathlib.Core.Path.{_≡_};
+ghost use mathlib.Core.Bool.{true};
 ghost use Rattle.definition.specs.Tries.{Try, orElse, andThen};
 ghost use Rattle.definition.specs.Kind.{ifOpen};
-ghost use Rattle.definition.specs.Endings.{Cutting, cut, nounStep2a, nounStep2b, nounStep2c1, nounStep3, noun};
+ghost use Rattle.definition.specs.Endings.{Cutting, cut, nounStep2a, nounStep2b, nounStep2c1, noun};
 ghost use Rattle.arabic.specs.Endings.{Ends, Ready, Gives, Given};
-ghost use Rattle.arabic.specs.Nests.{kindOf, afterStep1a, afterStep1b, byStep1a, byStep1b};
+ghost use Rattle.arabic.specs.Nests.{kindOf, afterStep1a, afterStep1b, byStep1a, byStep1b, nounFirst};
 
 // The noun's alternative of `stem`: one function for each of its nested alternatives.
-
-fn or_Step2a(t: Tried) -> Tried
-    requires { ⌜ Given t ⌝ }
-    ensures { λ r. ⌜ ((y : Try Cutting) → Gives t y → Gives r (orElse y (cut nounStep2a))) ⌝ }
-{
-    if t.found {
-        return t;
-    }
-    let x = t.env;
-    r_Suffix_Noun_Step2a(x)
-}
 
 fn or_Step2b(t: Tried) -> Tried
     requires { ⌜ Given t ⌝ }
@@ -104,17 +95,6 @@ fn by_Step1a(env: Env, b_is_defined: bool) -> Tried
     then_after_Step1a(a)
 }
 
-fn or_by_Step1a(t: Tried, b_is_defined: bool) -> Tried
-    requires { ⌜ Given t ⌝ }
-    ensures { λ r. ⌜ ((y : Try Cutting) → Gives t y → Gives r (orElse y (byStep1a (kindOf «b_is_defined»)))) ⌝ }
-{
-    if t.found {
-        return t;
-    }
-    let x = t.env;
-    by_Step1a(x, b_is_defined)
-}
-
 // Step1b and what follows it. Where that fails the cut of Step1b stays.
 fn by_Step1b(env: Env) -> Tried
     requires { ⌜ Ready env ⌝ }
@@ -124,53 +104,52 @@ fn by_Step1b(env: Env) -> Tried
     then_after_Step1b(a)
 }
 
-fn or_by_Step1b(t: Tried) -> Tried
-    requires { ⌜ Given t ⌝ }
-    ensures { λ r. ⌜ ((y : Try Cutting) → Gives t y → Gives r (orElse y byStep1b)) ⌝ }
-{
-    if t.found {
-        return t;
-    }
-    let x = t.env;
-    by_Step1b(x)
-}
-
 // If the word is open, Step2a.
-fn or_open_Step2a(t: Tried, b_is_defined: bool) -> Tried
-    requires { ⌜ Given t ⌝ }
-    ensures { λ r. ⌜ ((y : Try Cutting) → Gives t y → Gives r (orElse y (ifOpen (kindOf «b_is_defined») (cut nounStep2a)))) ⌝ }
+fn open_Step2a(env: Env, b_is_defined: bool) -> Tried
+    requires { ⌜ Ready env ⌝ }
+    ensures { λ r. ⌜ ((v : Cutting) → Ends env v → Gives r (ifOpen (kindOf «b_is_defined») (cut nounStep2a) v)) ⌝ }
 {
-    if t.found {
-        return t;
-    }
     if b_is_defined {
-        return t;
+        return Tried { found: false, env };
     }
-    let x = t.env;
-    r_Suffix_Noun_Step2a(x)
+    r_Suffix_Noun_Step2a(env)
 }
 
-fn then_Step3(t: Tried) -> Tried
-    requires { ⌜ Given t ⌝ }
-    ensures { λ r. ⌜ ((y : Try Cutting) → Gives t y → Gives r (andThen y (cut nounStep3))) ⌝ }
+// The first alternative that succeeds; the last one always does.
+fn first_cut(env: Env, b_is_defined: bool) -> Tried
+    requires { ⌜ Ready env ⌝ }
+    ensures { λ r. ⌜ (r .found ≡ true) × ((v : Cutting) → Ends env v → Gives r (nounFirst (kindOf «b_is_defined») v)) ⌝ }
 {
-    if t.found {
-        let x = t.env;
-        return r_Suffix_Noun_Step3(x);
+    let a = r_Suffix_Noun_Step2c2(env);
+    if a.found {
+        return a;
     }
-    t
+    let x = a.env;
+    let b = by_Step1a(x, b_is_defined);
+    if b.found {
+        return b;
+    }
+    let y = b.env;
+    let c = by_Step1b(y);
+    if c.found {
+        return c;
+    }
+    let z = c.env;
+    let d = open_Step2a(z, b_is_defined);
+    if d.found {
+        return d;
+    }
+    let u = d.env;
+    let e = r_Suffix_Noun_Step2b(u);
+    or_nothing(e)
 }
 
-// The noun.
+// The noun: its first alternative, and then Step3.
 pub fn noun(env: Env, b_is_defined: bool) -> Tried
     requires { ⌜ Ready env ⌝ }
     ensures { λ r. ⌜ ((v : Cutting) → Ends env v → Gives r (noun (kindOf «b_is_defined») v)) ⌝ }
 {
-    let a = r_Suffix_Noun_Step2c2(env);
-    let b = or_by_Step1a(a, b_is_defined);
-    let c = or_by_Step1b(b);
-    let d = or_open_Step2a(c, b_is_defined);
-    let e = or_Step2b(d);
-    let f = or_nothing(e);
-    then_Step3(f)
+    let t = first_cut(env, b_is_defined);
+    let x = t.env;
+    r_Suffix_Noun_Step3(x)
 }

@@ -22,7 +22,7 @@ or-nothing-requires c κs =
 returns : tie.Need-returns
 returns c =
     λ v st. subst (Gives (c .or-nothing .result)) (after-step1a-is v)
-    (c .or-nothing .ensures _ (c .before .or-Step2c1 .ensures _ (c .before .before .or-Step2b .ensures _ (c .before .before .before .r-Suffix-Noun-Step2a .ensures v st))))
+    (c .or-nothing .ensures .1 _ (c .before .or-Step2c1 .ensures _ (c .before .before .or-Step2b .ensures _ (c .before .before .before .r-Suffix-Noun-Step2a .ensures v st))))
 
 pub after-Step1a-spec : {M : Type 1} → statement M
 after-Step1a-spec =

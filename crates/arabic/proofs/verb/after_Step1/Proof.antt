@@ -16,9 +16,11 @@ or-nothing-requires : tie.Need-or-nothing-requires
 or-nothing-requires c κs = (_, c .or-Step2c .ensures _ (c .before .r-Suffix-Verb-Step2a .ensures (c .before .before .pre .0) (c .before .before .pre .1)))
 
 returns : tie.Need-returns
-returns c =
-    λ v st. subst (Gives (c .or-nothing .result)) (after-step1-is v)
-    (c .or-nothing .ensures _ (c .before .or-Step2c .ensures _ (c .before .before .r-Suffix-Verb-Step2a .ensures v st)))
+returns c = (
+  c .or-nothing .ensures .0,
+  λ v st. subst (Gives (c .or-nothing .result)) (after-step1-is v)
+      (c .or-nothing .ensures .1 _ (c .before .or-Step2c .ensures _ (c .before .before .r-Suffix-Verb-Step2a .ensures v st))),
+)
 
 pub after-Step1-spec : {M : Type 1} → statement M
 after-Step1-spec =
