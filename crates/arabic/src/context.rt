@@ -48,6 +48,12 @@ pub fn checked(text: &[u8], limit: usize) -> Context
     context
 }
 
+fn choose(first: bool, a: bool, b: bool) -> bool
+    ensures { λ r. ⌜ r ≡ pick first a b ⌝ }
+{
+    if first { a } else { b }
+}
+
 // A step, and the verb and noun flags after it.
 pub struct Flagged {
     pub tried: Tried,
@@ -62,17 +68,10 @@ pub fn flagged_Prefix_Step4_Verb(env: Env, verb: bool, noun: bool) -> Flagged
 {
     let t = replace_Prefix_Step4_Verb(env);
     let found = t.found;
-    if found {
-        return Flagged {
-            tried: t,
-            verb: true,
-            noun: false,
-        };
-    }
     Flagged {
         tried: t,
-        verb: verb,
-        noun: noun,
+        verb: choose(found, true, verb),
+        noun: choose(found, false, noun),
     }
 }
 
