@@ -1,0 +1,31 @@
+# Sourced by compare/run, compare/fuzz and bench/run.
+
+# The library to link: the given path, or else one built from this repository.
+# library_path GIVEN ROOT
+library_path() {
+    local given=$1 root=$2
+    if [ -n "$given" ]; then
+        [ -f "$given" ] || { echo "no library '$given'" >&2; return 2; }
+        realpath "$given"
+        return
+    fi
+    if [ -x "$root/build-library" ]; then
+        (cd "$root" && ./build-library) >&2 || { echo "./build-library failed" >&2; return 2; }
+    else
+        command -v rt >/dev/null || { echo "the Rattle toolchain is missing: put its command 'rt' on the PATH, or give a library by --library PATH" >&2; return 2; }
+        (cd "$root" && rt staticlib arabic_stemmer) >&2 || { echo "rt staticlib arabic_stemmer failed" >&2; return 2; }
+    fi
+    local built=$root/target/staticlib/libarabic_stemmer.a
+    [ -f "$built" ] || { echo "no target/staticlib/libarabic_stemmer.a after the build" >&2; return 2; }
+    realpath "$built"
+}
+
+# needs TOOL WHY
+needs() {
+    command -v "$1" >/dev/null || { echo "$1 is not installed: $2" >&2; exit 2; }
+}
+
+# number OPTION VALUE
+number() {
+    [[ $2 =~ ^[0-9]+$ ]] || { echo "$1 takes a number, not '$2'" >&2; exit 2; }
+}
