@@ -1,4 +1,5 @@
 // Measures the library, the Rust and, with the setting libstemmer, Snowball's C library on the same words.
+//   bench sample FILE                      prints the words of a list that are taken as typical words
 //   bench sets FILE                        the names of the word sets
 //   bench count CONTENDER SET FILE         takes the set once through run_CONTENDER; callgrind counts inside that function. Prints the number of words
 //   bench table COUNTS ROUNDS FILE         times all sets and prints the table; COUNTS has lines of set, contender, words, instructions
@@ -255,6 +256,7 @@ fn main() {
     let a: Vec<String> = std::env::args().collect();
     let a: Vec<&str> = a.iter().map(|s| s.as_str()).collect();
     match a[1..] {
+        ["sample", file] => println!("{}", listed(file).join("\n")),
         ["sets", file] => sets(file).iter().for_each(|s| println!("{}", s.name)),
         ["count", contender, name, file] => {
             let set = sets(file).into_iter().find(|s| s.name == name).unwrap_or_else(|| fail("no such set"));
@@ -264,6 +266,6 @@ fn main() {
             println!("{}", set.words.len());
         }
         ["table", counts, rounds, file] => table(counts, rounds.parse().unwrap_or_else(|_| fail("no number of rounds")), file),
-        _ => fail("usage: bench sets FILE | count CONTENDER SET FILE | table COUNTS ROUNDS FILE"),
+        _ => fail("usage: bench sample FILE | sets FILE | count CONTENDER SET FILE | table COUNTS ROUNDS FILE"),
     }
 }

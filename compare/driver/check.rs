@@ -87,7 +87,8 @@ pub struct Checker {
     word: Fenced,
     out: Fenced,
     pattern: Vec<u8>,
-    turn: usize,
+    /// Chooses the pattern and the places; each call moves it on.
+    pub turn: usize,
     /// Whether each word is tried with all lengths of the output; otherwise with the result's own length and one other, in turn.
     pub all_lengths: bool,
 }

@@ -16,7 +16,6 @@ use std::io::BufRead;
 use std::time::{Duration, Instant};
 use words::Words;
 
-const LETTERS: u32 = 6;
 const CARRIERS: [&'static str; 3] = ["\u{643}\u{62A}\u{627}\u{628}", "\u{627}\u{644}\u{648}\u{62C}\u{647}\u{629}", "\u{641}\u{633}\u{64A}\u{62F}\u{631}\u{633}\u{648}\u{646}\u{647}\u{627}"];
 
 extern "C" {
@@ -108,13 +107,13 @@ fn version(run: &mut Run) {
     run.end(&format!("'{}', outputs of 0 to 400 bytes", shown));
 }
 
-/// All words over the letters of the tables A_1 to A_21, the short ones first.
-fn letters(run: &mut Run, words: &Words) {
-    run.begin("letters");
+/// All words of up to `longest` of the letters, the short ones first.
+fn all_words(run: &mut Run, part: &'static str, letters: &[char], longest: u32) {
+    run.begin(part);
     run.checker.all_lengths = false;
-    let n = words.table_letters.len() as u64;
+    let n = letters.len() as u64;
     let mut what = String::new();
-    for length in 0..LETTERS + 1 {
+    for length in 0..longest + 1 {
         let all = n.pow(length);
         let mut word = String::new();
         let mut done = 0;
@@ -122,7 +121,7 @@ fn letters(run: &mut Run, words: &Words) {
             word.clear();
             let mut rest = done;
             for _ in 0..length {
-                word.push(words.table_letters[(rest % n) as usize]);
+                word.push(letters[(rest % n) as usize]);
                 rest /= n;
             }
             done += 1;
@@ -274,7 +273,8 @@ fn main() {
     for part in a[4].split(',') {
         match part {
             "version" => version(&mut run),
-            "letters" => letters(&mut run, &words),
+            "letters" => all_words(&mut run, "letters", &words.table_letters, 6),
+            "forms" => all_words(&mut run, "forms", &words.all_letters, 3),
             "scalars" => scalars(&mut run),
             "bytes" => bytes(&mut run),
             "lengths" => lengths(&mut run),
@@ -282,7 +282,7 @@ fn main() {
             "damaged" => random(&mut run, &mut words, number(3), true),
             "list" => list(&mut run, &a[5]),
             _ => {
-                eprintln!("no part '{}': the parts are version, bytes, lengths, random, damaged, scalars, letters and list", part);
+                eprintln!("no part '{}': the parts are version, lengths, bytes, random, damaged, list, scalars, forms and letters", part);
                 std::process::exit(2)
             }
         }

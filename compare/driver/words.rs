@@ -44,8 +44,10 @@ pub struct Words {
     /// Letters with the presentation forms that stand for them.
     forms: HashMap<String, Vec<&'static str>>,
     pub random: Random,
-    /// The letters in the keys of A_1 to A_21.
+    /// The letters in the keys of A_1 to A_21, and U+062F, which is in none.
     pub table_letters: Vec<char>,
+    /// These and the letters in the keys of A_0.
+    pub all_letters: Vec<char>,
 }
 
 impl Words {
@@ -58,11 +60,16 @@ impl Words {
                 forms.entry(gives).or_insert(Vec::new()).push(key);
             }
         }
-        let mut table_letters: Vec<char> = keys[1..].iter().flat_map(|t| t.iter()).flat_map(|k| k.chars()).collect();
-        table_letters.sort();
-        table_letters.dedup();
+        let letters_of = |tables: &[Vec<&'static str>]| {
+            let mut letters: Vec<char> = tables.iter().flat_map(|t| t.iter()).flat_map(|k| k.chars()).chain(Some('\u{62F}')).collect();
+            letters.sort();
+            letters.dedup();
+            letters
+        };
+        let table_letters = letters_of(&keys[1..]);
+        let all_letters = letters_of(&keys);
         let letters = (0x621..0x63B).chain(0x641..0x64B).map(character).collect();
-        Words { keys: keys, letters: letters, forms: forms, random: Random::seeded(seed), table_letters: table_letters }
+        Words { keys: keys, letters: letters, forms: forms, random: Random::seeded(seed), table_letters: table_letters, all_letters: all_letters }
     }
 
     fn chance(&mut self, percent: usize) -> bool {
