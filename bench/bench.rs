@@ -248,7 +248,11 @@ fn join<T, F: Fn(&T) -> String>(of: &[T], show: F) -> String {
 }
 
 fn ratios(name: &str, counted: &[f64], ns: &[f64]) -> String {
-    let over = |v: &[f64], turned: bool| join(&v[1..].iter().map(|x| if turned { x / v[0] } else { v[0] / x }).enumerate().collect::<Vec<_>>(), |(i, r)| if *i == 0 { format!("{:.2}", r) } else { format!("({:.2})", r) });
+    // Ours over each other contender's, those behind the Rust's in brackets.
+    let over = |v: &[f64], less_is_more: bool| {
+        let of = |i: usize| if less_is_more { v[i] / v[0] } else { v[0] / v[i] };
+        (1..v.len()).map(|i| if i == 1 { format!("{:.2}", of(i)) } else { format!("({:.2})", of(i)) }).collect::<Vec<_>>().join(" ")
+    };
     format!("{} instructions {}, words a second {}", name, over(counted, false), over(ns, true))
 }
 

@@ -1,3 +1,4 @@
+# shellcheck shell=bash
 # Sourced by compare/run, compare/fuzz and bench/run.
 
 # The library to link: the given path, or else one built from this repository.
