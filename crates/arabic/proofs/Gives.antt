@@ -2,7 +2,7 @@
 use mathlib.Core.Path.{_≡_, refl, sym, ap, _∙_}
 use mathlib.Core.Bool.{Bool, true}
 use mathlib.Core.Logic.{inl}
-use mathlib.Core.List.{List, [], _∷_, _++_}
+use mathlib.Core.List.{[], _∷_, _++_}
 use Prim.Native.Nat.{ℕ, zero, suc, _+_, _/_, _%_, _≤_, _<_}
 use native.Mathlib.Omega.{arith}
 use lib.Dec.{eqb, ltb}
@@ -70,29 +70,27 @@ all-short : all (λ (r : Row). ltb (packed (r .letters)) 0x10000000) gives ≡ t
 unfolding gives
 all-short = refl
 
-module _ (c k : ℕ) (vs : List ℕ) (e : vs ≡ packedGives) (l : k < 56) (h : k ≡ 0 → ⊥) where
-  by-number : encode (given c k) ≡ encode (unpacked (getD vs k 0))
-  by-number = ap encode (given-listed c k h ∙ sym (unpacked-at k l)) ∙ ap (λ (l : List ℕ). encode (unpacked (getD l k 0))) (sym e)
+-- v is the number of the class k
+module _ (c k v : ℕ) (e : v ≡ getD packedGives k 0) (l : k < 56) (h : k ≡ 0 → ⊥) where
+  by-number : encode (given c k) ≡ encode (unpacked v)
+  by-number = ap encode (given-listed c k h ∙ sym (unpacked-at k l)) ∙ ap (λ (n : ℕ). encode (unpacked n)) (sym e)
 
-  pub give-none : getD vs k 0 ≡ 0 → encode (given c k) ≡ []
+  pub give-none : v ≡ 0 → encode (given c k) ≡ []
   give-none z = by-number ∙ rw z no-bytes
 
-  pub give-one : (getD vs k 0 ≡ 0 → ⊥) → getD vs k 0 < 65536 → encode (given c k) ≡ encode1 (getD vs k 0)
-  give-one z s = by-number ∙ rw (ne-eqb (getD vs k 0) 0 z, lt-ltb (getD vs k 0) 65536 s) (encode-one (getD vs k 0))
+  pub give-one : (v ≡ 0 → ⊥) → v < 65536 → encode (given c k) ≡ encode1 v
+  give-one z s = by-number ∙ rw (ne-eqb v 0 z, lt-ltb v 65536 s) (encode-one v)
 
-  pub give-two : 65536 ≤ getD vs k 0 → encode (given c k) ≡ encode1 (getD vs k 0 % 65536) ++ encode1 (getD vs k 0 / 65536)
-  give-two s =
-      by-number
-      ∙ rw (ne-eqb (getD vs k 0) 0 (λ (z : getD vs k 0 ≡ 0). omega arith), le-ltb (getD vs k 0) 65536 s)
-      (two-bytes (getD vs k 0 % 65536) (getD vs k 0 / 65536))
+  pub give-two : 65536 ≤ v → encode (given c k) ≡ encode1 (v % 65536) ++ encode1 (v / 65536)
+  give-two s = by-number ∙ rw (ne-eqb v 0 (λ (z : v ≡ 0). omega arith), le-ltb v 65536 s) (two-bytes (v % 65536) (v / 65536))
 
-  pub give-small : getD vs k 0 < 0x10000000
+  pub give-small : v < 0x10000000
   unfolding packedGives
   give-small =
       let s : packed (listedFor gives (0 + k)) < 0x10000000 =
       listed (λ w. packed w < 0x10000000) (λ (r : Row). ltb (packed (r .letters)) 0x10000000)
       (omega arith) (λ r. ltb-true (packed (r .letters)) 0x10000000) gives all-short (0 + k) in
-      omega (arith, ap (λ (l : List ℕ). getD l k 0) e, given-at 56 0 k l)
+      omega (arith, e, given-at 56 0 k l)
 
 -- ---- what is given are scalar values
 

@@ -14,7 +14,7 @@ use snowball::among::find_among_b;
 use snowball::env::Env;
 ghost use mathlib.Core.Path.{_≡_};
 ghost use Prim.Native.Nat.{_+_, _-_, _*_, _/_, _%_, _<_, _≤_};
-ghost use lib.ListN.{length, take};
+ghost use lib.ListN.{length, take, getD};
 ghost use Rattle.definition.specs.Words.{Word};
 ghost use Rattle.definition.specs.Normal.{given, normalise};
 ghost use Rattle.definition.specs.Finish.{last, other, finish};
@@ -22,7 +22,7 @@ ghost use Rattle.utf8.specs.Utf8.{encode1, encode};
 ghost use Rattle.snowball.specs.Chars.{Chars, started};
 ghost use Rattle.snowball.specs.Stands.{Stands, Holds};
 ghost use Rattle.arabic.specs.Bytes.{Encodes, Spelt, LetterFrom, SomeLetter, Read, Wrote};
-ghost use Rattle.arabic.specs.Rows.{keys, rowOf, packedGives};
+ghost use Rattle.arabic.specs.Rows.{keys, classes, rowOf, packedGives};
 ghost use Rattle.arabic.specs.Texts.{Normalised, Finished, changed};
 
 // A letter as a number, and how many bytes it has.
@@ -173,17 +173,40 @@ fn row_of(rows: &[u32; 161], c: u32) -> usize
     161
 }
 
-// Writes what stands for the letter c, whose row has this class; with class 0, for no row, c itself. The answer is the place
-// behind it.
-fn give(gives: &[u32; 56], class: usize, c: u32, out: &mut [u8; 340], at: usize) -> usize
-    requires { ⌜ (now gives ≡ packedGives) × (class < 56) × (c < 0x110000) ⌝ }
+// The class of a row of A_0. The table is named here alone, so that it is built only for a letter that has a row.
+fn listed_class(row: usize) -> usize
+    requires { ⌜ row < 161 ⌝ }
+    ensures { λ r. ⌜ r ≡ getD classes row 0 ⌝ }
+{
+    index(A_0_CLASSES[row])
+}
+
+// The class of a row of A_0, and 0 behind the last row.
+fn class_of_row(row: usize) -> usize
+    requires { ⌜ row ≤ 161 ⌝ }
+    ensures { λ r. ⌜ r ≡ getD classes row 0 ⌝ }
+{
+    if row == 161 {
+        return 0;
+    }
+    listed_class(row)
+}
+
+// What a class gives, as a number.
+fn given_number(class: usize) -> u32
+    requires { ⌜ class < 56 ⌝ }
+    ensures { λ r. ⌜ r ≡ getD packedGives class 0 ⌝ }
+{
+    A_0_GIVES[class]
+}
+
+// Writes what stands for the letter c, whose row has this class. The answer is the place behind it.
+fn give_listed(class: usize, c: u32, out: &mut [u8; 340], at: usize) -> usize
+    requires { ⌜ (class < 56) × (0 < class) ⌝ }
     requires { ⌜ (at + length (encode (given c class)) ≤ 340) × (length (now out) ≡ 340) ⌝ }
     ensures { λ r. ⌜ Wrote (now (out .entry)) at (encode (given c class)) (now (out .exit)) r ⌝ }
 {
-    if class == 0 {
-        return put_letter(out, at, c);
-    }
-    let v = gives[class];
+    let v = given_number(class);
     if v == 0 {
         return at;
     }
@@ -194,6 +217,18 @@ fn give(gives: &[u32; 56], class: usize, c: u32, out: &mut [u8; 340], at: usize)
     put_letter(out, k, v / 65536)
 }
 
+// Writes what stands for the letter c, whose row has this class; with class 0, for no row, c itself.
+fn give(class: usize, c: u32, out: &mut [u8; 340], at: usize) -> usize
+    requires { ⌜ (class < 56) × (c < 0x110000) ⌝ }
+    requires { ⌜ (at + length (encode (given c class)) ≤ 340) × (length (now out) ≡ 340) ⌝ }
+    ensures { λ r. ⌜ Wrote (now (out .entry)) at (encode (given c class)) (now (out .exit)) r ⌝ }
+{
+    if class == 0 {
+        return put_letter(out, at, c);
+    }
+    give_listed(class, c, out, at)
+}
+
 // The loop of r_Normalize_pre, from the first limit bytes of text into out. The answer is the number of bytes written. The
 // Rust replaces each letter within the text, which moves all that is behind it.
 fn normalize_text(text: &[u8], limit: usize, out: &mut [u8; 340]) -> usize
@@ -202,15 +237,13 @@ fn normalize_text(text: &[u8], limit: usize, out: &mut [u8; 340]) -> usize
     ensures { λ r. ⌜ ((cs : Word) → Encodes (take limit (now (text .entry))) cs → Normalised cs (now (out .exit)) r) ⌝ }
 {
     let rows = A_0_KEYS;
-    let classes = A_0_CLASSES;
-    let gives = A_0_GIVES;
     let mut cursor = 0;
     let mut end = 0;
     while cursor < limit {
         let letter = read_letter(text, cursor);
         let row = row_of(&rows, letter.code);
-        let class = index(classes[row]);
-        end = give(&gives, class, letter.code, out, end);
+        let class = class_of_row(row);
+        end = give(class, letter.code, out, end);
         cursor += letter.width;
     }
     end
