@@ -9,29 +9,25 @@ use native.Mathlib.Numerals.{add-one}
 use lib.Dec.{leb}
 use lib.ListN.{length, drop, getD, drop-of-length-le}
 use lib.Seq.{drop-cons}
-use borrow.Author.Tests.{le-leb, lt-leb}
-use Rattle.utf8.specs.Utf8.{State, whole, more, bad, filled, step, onto, run, isSome, wellFormed}
-use Rattle.utf8.specs.Reading.{forget, left, nextOf, isWhole}
+use borrow.Author.Tests.{eq-eqb, ne-eqb, leb-true, le-leb, lt-leb}
+use Rattle.utf8.specs.Utf8.{State, whole, more, bad, first, filled, step, onto, run, isSome, wellFormed}
+use Rattle.utf8.specs.Reading.{left, lost, forget, nextOf, isWhole}
 use Rattle.utf8.specs.declared.Reading.{Reading}
-use Rattle.utf8.specs.declared.Reading.the-variants.{Whole, More, Bad}
 use Rattle.definition.proofs.Match.{by}
 
-module _ (s : Reading) (k lo hi b : ℕ) (e : s ≡ More k lo hi) where
-  pub next-low : b < lo → Bad ≡ nextOf s b
-  next-low h = rw (e, lt-leb lo b h) refl
+module _ (r : Reading) (b : ℕ) where
+  pub next-first : r .missing ≡ 0 → forget (first b) ≡ nextOf r b
+  next-first e = rw (eq-eqb (r .missing) 0 e) refl
 
-  pub next-high : lo ≤ b → hi < b → Bad ≡ nextOf s b
-  next-high h g = rw (e, le-leb lo b h, lt-leb b hi g) refl
+  module _ (n : r .missing ≡ 0 → ⊥) where
+    pub next-low : b < r .lo → lost ≡ nextOf r b
+    next-low h = rw (ne-eqb (r .missing) 0 n, lt-leb (r .lo) b h) refl
 
-  pub next-in : lo ≤ b → b ≤ hi → left k ≡ nextOf s b
-  next-in h g = rw (e, le-leb lo b h, le-leb b hi g) refl
+    pub next-high : r .lo ≤ b → r .hi < b → lost ≡ nextOf r b
+    next-high h g = rw (ne-eqb (r .missing) 0 n, le-leb (r .lo) b h, lt-leb b (r .hi) g) refl
 
-pub left-zero : (k : ℕ) → k ≡ 0 → Whole ≡ left k
-left-zero k e = rw e refl
-
-pub left-more : (k : ℕ) → (k ≡ 0 → ⊥) → More (k - 1) 0x80 0xBF ≡ left k
-left-more zero h = absurd (h refl)
-left-more (suc k) h = let e : suc k - 1 ≡ k = omega arith in rw e refl
+    pub next-in : r .lo ≤ b → b ≤ r .hi → left (r .missing - 1) ≡ nextOf r b
+    next-in h g = rw (ne-eqb (r .missing) 0 n, le-leb (r .lo) b h, le-leb b (r .hi) g) refl
 
 forget-filled : (k a : ℕ) → forget (filled k a) ≡ left k
 unfolding filled
@@ -43,8 +39,10 @@ pub forget-step : (s : State) (b : ℕ) → forget (step s b) ≡ nextOf (forget
 unfolding step
 forget-step (whole c) b = refl
 forget-step (more k a lo hi) b =
-    by (leb lo b) (λ t. by (leb b hi) (λ u. rw (t, u) (forget-filled k (a * 64 + (b - 0x80)))) (λ u. rw (t, u) refl)) (λ t. rw t refl)
-forget-step bad b = refl
+    let n : suc k - 1 ≡ k = omega arith in
+    rw (ne-eqb (suc k) 0 (λ (e : suc k ≡ 0). omega arith), n)
+    (by (leb lo b) (λ t. by (leb b hi) (λ u. rw (t, u) (forget-filled k (a * 64 + (b - 0x80)))) (λ u. rw (t, u) refl)) (λ t. rw t refl))
+forget-step bad b = by (leb 1 b) (λ t. rw (t, lt-leb b 0 (omega (arith, leb-true 1 b t))) refl) (λ t. rw t refl)
 
 map-some : (c : ℕ) (o : Option (List ℕ)) → isSome (Option·map (λ (cs : List ℕ). c ∷ cs) o) ≡ isSome o
 map-some c none = refl
@@ -70,14 +68,14 @@ run-step bad b bs = bad-none bs
 run-end : (s : State) → isSome (run s []) ≡ isWhole (forget s)
 unfolding run
 run-end (whole c) = refl
-run-end (more k a lo hi) = refl
+run-end (more k a lo hi) = sym (ne-eqb (suc k) 0 (λ (e : suc k ≡ 0). omega arith))
 run-end bad = refl
 
 -- the loop's invariant: the whole word is well formed just where what is left of it is, from the state kept
 abbrev pub Reads : List ℕ → Reading → ℕ → Type 0
 Reads w r i = (s : State) × (forget s ≡ r) × (wellFormed w ≡ isSome (run s (drop i w)))
 
-pub reads-start : (w : List ℕ) → Reads w Whole 0
+pub reads-start : (w : List ℕ) → Reads w (left 0) 0
 reads-start w = (whole 0, refl, refl)
 
 pub reads-next : (w : List ℕ) (r r′ : Reading) (i : ℕ) → Reads w r i → i < length w → r′ ≡ nextOf r (getD w i 0) → Reads w r′ (i + 1)

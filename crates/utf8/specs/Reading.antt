@@ -1,27 +1,26 @@
--- What `well_formed` keeps of a reader's state: everything but the bits.
-use Prim.Native.Nat.{ℕ, zero, suc}
-use mathlib.Core.Bool.{Bool, true, false}
-use lib.Dec.{leb}
+-- What `well_formed` keeps of a reader's state: how many bytes of a character are missing, and the range of the next of them.
+use Prim.Native.Nat.{ℕ, suc, _-_}
+use mathlib.Core.Bool.{Bool}
+use lib.Dec.{eqb, leb}
 use Rattle.definition.specs.Words.{pick}
 use Rattle.utf8.specs.Utf8.{State, whole, more, bad, first}
 use Rattle.utf8.specs.declared.Reading.{Reading}
-use Rattle.utf8.specs.declared.Reading.the-variants.{Whole, More, Bad}
+
+-- n bytes are missing, as after the second byte of a character
+abbrev pub left : ℕ → Reading
+left n = record { missing = n; lo = 0x80; hi = 0xBF }
+
+-- past what is not well formed a byte is missing that no byte is
+abbrev pub lost : Reading
+lost = record { missing = 1; lo = 1; hi = 0 }
 
 abbrev pub forget : State → Reading
-forget (whole c) = Whole
-forget (more k a lo hi) = More k lo hi
-forget bad = Bad
-
-abbrev pub left : ℕ → Reading
-left zero = Whole
-left (suc k) = More k 0x80 0xBF
+forget (whole c) = left 0
+forget (more k a lo hi) = record { missing = suc k; lo = lo; hi = hi }
+forget bad = lost
 
 abbrev pub nextOf : Reading → ℕ → Reading
-nextOf Whole b = forget (first b)
-nextOf (More k lo hi) b = pick (leb lo b) (pick (leb b hi) (left k) Bad) Bad
-nextOf Bad b = Bad
+nextOf r b = pick (eqb (r .missing) 0) (forget (first b)) (pick (leb (r .lo) b) (pick (leb b (r .hi)) (left (r .missing - 1)) lost) lost)
 
 abbrev pub isWhole : Reading → Bool
-isWhole Whole = true
-isWhole (More k lo hi) = false
-isWhole Bad = false
+isWhole r = eqb (r .missing) 0

@@ -3,12 +3,27 @@ ghost use Rattle.definition.specs.Words.{pick};
 ghost use Rattle.utf8.specs.Utf8.{first, wellFormed};
 ghost use Rattle.utf8.specs.Reading.{forget, nextOf, isWhole};
 
-// Where a reader of UTF-8 stands: past a whole character; before k + 1 more bytes of one, More(k, lo, hi), the next of
-// them lo to hi; past what is not well formed.
-pub enum Reading {
-    Whole,
-    More(u8, u8, u8),
-    Bad,
+// Where a reader of UTF-8 stands: how many bytes of a character are missing, the next of them lo to hi.
+pub struct Reading {
+    missing: u8,
+    lo: u8,
+    hi: u8,
+}
+
+impl Reading {
+    // No byte is missing.
+    const WHOLE: Reading = Reading {
+        missing: 0,
+        lo: 0x80,
+        hi: 0xBF,
+    };
+
+    // Past what is not well formed: a byte is missing that no byte is.
+    const LOST: Reading = Reading {
+        missing: 1,
+        lo: 1,
+        hi: 0,
+    };
 }
 
 fn choose(c: bool, x: u8, y: u8) -> u8
@@ -22,63 +37,61 @@ fn first_byte(b: u8) -> Reading
     ensures { λ r. ⌜ r ≡ forget (first b) ⌝ }
 {
     if b <= 0x7F {
-        return Reading::Whole;
+        return Reading::WHOLE;
     }
     if b <= 0xC1 {
-        return Reading::Bad;
+        return Reading::LOST;
     }
     if b <= 0xDF {
-        return Reading::More(0, 0x80, 0xBF);
+        return Reading {
+            missing: 1,
+            lo: 0x80,
+            hi: 0xBF,
+        };
     }
     if b <= 0xEF {
         let lo = choose(b == 0xE0, 0xA0, 0x80);
         let hi = choose(b == 0xED, 0x9F, 0xBF);
-        return Reading::More(1, lo, hi);
+        return Reading { missing: 2, lo, hi };
     }
     if b <= 0xF4 {
         let lo = choose(b == 0xF0, 0x90, 0x80);
         let hi = choose(b == 0xF4, 0x8F, 0xBF);
-        return Reading::More(2, lo, hi);
+        return Reading { missing: 3, lo, hi };
     }
-    Reading::Bad
+    Reading::LOST
 }
 
 fn next_byte(s: Reading, b: u8) -> Reading
     ensures { λ r. ⌜ r ≡ nextOf s b ⌝ }
 {
-    match s {
-        Reading::Whole => first_byte(b),
-        Reading::More(k, lo, hi) => {
-            if b < lo {
-                return Reading::Bad;
-            }
-            if hi < b {
-                return Reading::Bad;
-            }
-            if k == 0 {
-                return Reading::Whole;
-            }
-            Reading::More(k - 1, 0x80, 0xBF)
-        }
-        Reading::Bad => Reading::Bad,
+    if s.missing == 0 {
+        return first_byte(b);
+    }
+    if b < s.lo {
+        return Reading::LOST;
+    }
+    if s.hi < b {
+        return Reading::LOST;
+    }
+    Reading {
+        missing: s.missing - 1,
+        lo: 0x80,
+        hi: 0xBF,
     }
 }
 
 fn is_whole(s: Reading) -> bool
     ensures { λ r. ⌜ r ≡ isWhole s ⌝ }
 {
-    match s {
-        Reading::Whole => true,
-        Reading::More(_, _, _) => false,
-        Reading::Bad => false,
-    }
+    s.missing == 0
 }
 
 // Whether the bytes are well-formed UTF-8.
 pub fn well_formed(word: &[u8]) -> bool
     ensures { λ r. ⌜ r ≡ wellFormed (now (word .entry)) ⌝ }
 {
-    let mut s = Reading::Whole;
+    let mut s = Reading::WHOLE;
     let mut i = 0;
     while i < word.len() {
         s = next_byte(s, word[i]);
