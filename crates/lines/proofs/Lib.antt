@@ -6,3 +6,4 @@ pub mod Runs
 pub mod Opening
 pub mod Splitting
 pub mod Whole
+pub mod Questions

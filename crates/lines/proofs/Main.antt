@@ -6,6 +6,8 @@ use lib.ListN.{length}
 use Rattle.lines.specs.Plain.{lineFeed, questionMark, zeroDigit, skipMark, linesOf, answerLine, output}
 use Rattle.lines.specs.Machine.{Reading, lineRoom, start, after, written, lastLine, inPieces, taken}
 use Rattle.lines.specs.Examples.{examples}
+use Rattle.stemmer.specs.Entries.{stemBytes}
+use Rattle.lines.proofs.Questions.{Free, no-question}
 use Rattle.lines.proofs.Answering.{line-long}
 use Rattle.lines.proofs.Examples.{examples-right}
 use Rattle.lines.proofs.Runs.{pieces-joined, taken-some}
@@ -27,6 +29,10 @@ main-taken = taken-some
 -- a line over 255 bytes is answered by `?1`
 pub main-overlong : (w : List ℕ) → 255 < length w → answerLine w ≡ questionMark ∷ (zeroDigit + 1) ∷ lineFeed ∷ []
 main-overlong = line-long
+
+-- no stem holds `?`, so that a line with `?` is a refusal
+pub main-question : (w : List ℕ) → Free (stemBytes w)
+main-question = no-question
 
 -- the lines of an input: what stands before the first LF is one, and what stands behind the last LF is one if it has a byte
 pub main-line : (w bs : List ℕ) → NoLf w → linesOf (w ++ lineFeed ∷ bs) ≡ w ∷ linesOf bs
