@@ -3,8 +3,8 @@ ghost use lib.ListN.{length};
 ghost use Rattle.definition.specs.Normal.{normalise};
 ghost use Rattle.definition.specs.Finish.{finish};
 ghost use Rattle.definition.specs.Stem.{stem};
-ghost use Rattle.stemmer.specs.Entries.{bytesOf, fitting, answer, outAfter, kindAnswer, Demand3After};
-ghost use Rattle.arabic_stemmer.specs.Interface.{told, number, toldKind, version};
+ghost use Rattle.stemmer.specs.Entries.{bytesOf, fitting, answer, outAfter, kindAnswer, Demand3After, version};
+ghost use Rattle.arabic_stemmer.specs.Interface.{told, number, toldKind};
 
 // The entries under the names that C links; include/arabic_stemmer.h declares them. A slice is a pointer and a length.
 
@@ -89,7 +89,6 @@ pub extern "C" fn arabic_stemmer_version(out: &mut [u8]) -> Answer
     ensures { λ r. ⌜ r ≡ told (fitting (length version) (length (now (out .entry)))) ⌝ }
     ensures { λ r. ⌜ now (out .exit) ≡ outAfter (fitting (length version) (length (now (out .entry)))) version (now (out .entry)) ⌝ }
 {
-    let text = b"arabic_stemmer 1.0.0, as rust-stemmers 1.2.0";
-    let a = stemmer::deliver(text, 44, out);
+    let a = stemmer::version(out);
     answer_of(a)
 }

@@ -2,7 +2,7 @@
 use Prim.Native.Nat.{ℕ}
 use mathlib.Core.Path.{_≡_}
 use mathlib.Core.Bool.{not}
-use mathlib.Core.List.{List, [], _++_}
+use mathlib.Core.List.{List, [], _∷_, _++_}
 use mathlib.Core.Option.{Option, none, some}
 use lib.Dec.{ltb}
 use lib.ListN.{length, take, drop}
@@ -83,3 +83,7 @@ stemAnswer = answer stem
 -- demand 3, of the letters that stand in front of the output after an answer with code 0
 abbrev pub Demand3After : List ℕ → Answer → List ℕ → Type 0
 Demand3After word a new = (w : Word) → decode word ≡ some w → codeOf a ≡ 0 → (s : Word) × ((take (countOf a) new ≡ encode s) × Demand3 w s)
+
+-- the version's text: arabic_stemmer 1.0.0, as rust-stemmers 1.2.0
+abbrev pub version : List ℕ
+version = 0x61 ∷ 0x72 ∷ 0x61 ∷ 0x62 ∷ 0x69 ∷ 0x63 ∷ 0x5F ∷ 0x73 ∷ 0x74 ∷ 0x65 ∷ 0x6D ∷ 0x6D ∷ 0x65 ∷ 0x72 ∷ 0x20 ∷ 0x31 ∷ 0x2E ∷ 0x30 ∷ 0x2E ∷ 0x30 ∷ 0x2C ∷ 0x20 ∷ 0x61 ∷ 0x73 ∷ 0x20 ∷ 0x72 ∷ 0x75 ∷ 0x73 ∷ 0x74 ∷ 0x2D ∷ 0x73 ∷ 0x74 ∷ 0x65 ∷ 0x6D ∷ 0x6D ∷ 0x65 ∷ 0x72 ∷ 0x73 ∷ 0x20 ∷ 0x31 ∷ 0x2E ∷ 0x32 ∷ 0x2E ∷ 0x30 ∷ []

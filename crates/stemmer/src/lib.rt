@@ -11,7 +11,7 @@ ghost use lib.ListN.{length, take, drop};
 ghost use Rattle.definition.specs.Normal.{normalise};
 ghost use Rattle.definition.specs.Finish.{finish};
 ghost use Rattle.definition.specs.Stem.{stem};
-ghost use Rattle.stemmer.specs.Entries.{codeOf, bytesOf, fitting, answer, outAfter, partAfter, kindAnswer, Demand3After};
+ghost use Rattle.stemmer.specs.Entries.{codeOf, bytesOf, fitting, answer, outAfter, partAfter, kindAnswer, Demand3After, version};
 
 // What an entry with an output answers. Done has the number of bytes that it wrote, from the front of the output on; a
 // refusal leaves the output as it was.
@@ -44,7 +44,7 @@ fn copy_front(text: &[u8], n: usize, out: &mut [u8])
 }
 
 // Writes the first n bytes of text to the front of out, if out has room for them.
-pub fn deliver(text: &[u8], n: usize, out: &mut [u8]) -> Answer
+fn deliver(text: &[u8], n: usize, out: &mut [u8]) -> Answer
     requires { ⌜ n ≤ length (now text) ⌝ }
     ensures { λ r. ⌜ r ≡ fitting n (length (now (out .entry))) ⌝ }
     ensures { λ r. ⌜ now (out .exit) ≡ outAfter r (take n (now (text .entry))) (now (out .entry)) ⌝ }
@@ -144,4 +144,13 @@ pub fn kind(word: &[u8]) -> KindAnswer
         code: 2,
         kind: Kind::OPEN,
     }
+}
+
+// The version of the library, and the edition whose stems it gives, as text.
+pub fn version(out: &mut [u8]) -> Answer
+    ensures { λ r. ⌜ r ≡ fitting (length version) (length (now (out .entry))) ⌝ }
+    ensures { λ r. ⌜ now (out .exit) ≡ outAfter (fitting (length version) (length (now (out .entry)))) version (now (out .entry)) ⌝ }
+{
+    let text = b"arabic_stemmer 1.0.0, as rust-stemmers 1.2.0";
+    deliver(text, 44, out)
 }
