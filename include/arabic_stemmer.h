@@ -48,7 +48,8 @@ arabic_stemmer_answer arabic_stemmer_stem(const uint8_t *word, size_t word_lengt
 /* The word normalised, with nothing cut: marks and punctuation deleted, digits and presentation forms replaced. */
 arabic_stemmer_answer arabic_stemmer_normalise(const uint8_t *word, size_t word_length, uint8_t *output, size_t output_length);
 
-/* The word as given with its letters alef, waw and yeh freed of hamza and madda: the stemmer's last step alone. */
+/* The stemmer's last step alone, on the word as given: a last letter U+0622 to U+0626 becomes U+0621; elsewhere these lose
+ * their hamza or madda. */
 arabic_stemmer_answer arabic_stemmer_finish(const uint8_t *word, size_t word_length, uint8_t *output, size_t output_length);
 
 /* Whether the word is defined. Codes are 0, 1 and 2; there is no output. */
