@@ -15,6 +15,7 @@ use Rattle.definition.specs.Tables.{«A_1», «A_2»}
 use Rattle.definition.specs.Search.{rowAt, longer, longest}
 use Rattle.definition.specs.Finish.{last, other, finish}
 use Rattle.definition.proofs.Main.{main-last, main-other}
+use Rattle.definition.proofs.Stays.{other-stays}
 use Rattle.definition.proofs.Match.{by}
 use Rattle.arabic.specs.Texts.{changed}
 use Rattle.arabic.proofs.Reading.{scalar-top}
@@ -33,18 +34,14 @@ last-in : (c : ℕ) → 0x622 ≤ c → c ≤ 0x626 → last c ≡ 0x621
 unfolding last
 last-in c h k = rw (le-leb 0x622 c h, le-leb c 0x626 k) refl
 
-other-none : (c : ℕ) → (c ≡ 0x622 → ⊥) → (c ≡ 0x623 → ⊥) → (c ≡ 0x624 → ⊥) → (c ≡ 0x625 → ⊥) → (c ≡ 0x626 → ⊥) → other c ≡ c
-unfolding other
-other-none c a b d e f = rw (ne-eqb c 0x622 a, ne-eqb c 0x623 b, ne-eqb c 0x624 d, ne-eqb c 0x625 e, ne-eqb c 0x626 f) refl
-
 -- a letter before 0622 or behind 0626 stays
 pub stays-below : (ending : Bool) (c : ℕ) → c < 0x622 → c ≡ changed ending c
 stays-below true c h = sym (last-below c h)
-stays-below false c h = sym (other-none c (λ e. omega arith) (λ e. omega arith) (λ e. omega arith) (λ e. omega arith) (λ e. omega arith))
+stays-below false c h = sym (other-stays c (λ e. omega arith) (λ e. omega arith) (λ e. omega arith) (λ e. omega arith) (λ e. omega arith))
 
 pub stays-above : (ending : Bool) (c : ℕ) → 0x626 < c → c ≡ changed ending c
 stays-above true c h = sym (last-above c h)
-stays-above false c h = sym (other-none c (λ e. omega arith) (λ e. omega arith) (λ e. omega arith) (λ e. omega arith) (λ e. omega arith))
+stays-above false c h = sym (other-stays c (λ e. omega arith) (λ e. omega arith) (λ e. omega arith) (λ e. omega arith) (λ e. omega arith))
 
 -- ---- by the rows: k is the class of the row of A_1 or A_2 that the letter is
 

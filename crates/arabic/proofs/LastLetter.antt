@@ -14,6 +14,7 @@ use Rattle.definition.specs.Tables.{«A_21»}
 use Rattle.definition.specs.Search.{rowAt, longer, longest}
 use Rattle.definition.specs.Endings.{suffixAllAlefMaqsura}
 use Rattle.definition.proofs.Match.{by, clash, ends-split, ends-of}
+use Rattle.definition.proofs.Stays.{maqsura-stays}
 use Rattle.utf8.specs.Utf8.{encode, encode1}
 use Rattle.utf8.specs.Places.{size, At}
 use Rattle.utf8.proofs.Places.{size-append}
@@ -35,16 +36,6 @@ unfolding suffixAllAlefMaqsura
 maqsura-at [] = refl
 maqsura-at (c ∷ []) = refl
 maqsura-at (c ∷ d ∷ a) = ap (λ (w : Word). c ∷ w) (maqsura-at (d ∷ a))
-
-maqsura-stays : (w : Word) → endsWith w last ≡ false → suffixAllAlefMaqsura w ≡ w
-unfolding suffixAllAlefMaqsura
-maqsura-stays [] h = refl
-maqsura-stays (c ∷ []) h = by (eqb c alefMaksura)
-    (λ e. absurd (clash (ends-of (c ∷ []) [] last (ap (λ (x : ℕ). x ∷ []) (eqb-true c alefMaksura e))) h))
-    (λ e. ap (λ (b : Bool). pick b yeh c ∷ []) e)
-maqsura-stays (c ∷ d ∷ w) h = ap (λ (x : Word). c ∷ x) (maqsura-stays (d ∷ w) (by (endsWith (d ∷ w) last)
-    (λ e. absurd (clash (ends-of (c ∷ d ∷ w) (c ∷ take (length (d ∷ w) - 1) (d ∷ w)) last (ap (λ (x : Word). c ∷ x) (ends-split (d ∷ w) last e))) h))
-    (λ e. e)))
 
 -- ---- the search
 class-is : (w : Word) → rowAt «A_21» (longest (endsWith w) «A_21») .class ≡ pick (endsWith w last) 1 0

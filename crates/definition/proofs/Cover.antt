@@ -38,11 +38,11 @@ ends-shorter w key k p q h =
 abbrev pub either : Bool → Bool → Bool
 either a b = pick a true b
 
-either-right : (a b : Bool) → b ≡ true → either a b ≡ true
+pub either-right : (a b : Bool) → b ≡ true → either a b ≡ true
 either-right true b e = refl
 either-right false b e = e
 
-either-not : (a b : Bool) → a ≡ true → either (not a) b ≡ true → b ≡ true
+pub either-not : (a b : Bool) → a ≡ true → either (not a) b ≡ true → b ≡ true
 either-not true b p e = e
 either-not false b p e = absurd (false≢true p)
 
@@ -59,7 +59,7 @@ coverRow s key bound k =
 abbrev pub covers : Rule → Word → ℕ → Bool
 covers s key bound = both (ltb (longest (endsWith key) (s .table)) (length (s .table))) (all (coverRow s key bound) (s .table))
 
-fits : (w key k : Word) → endsWith w key ≡ true → endsWith w k ≡ true → compatible key k ≡ true
+pub fits : (w key k : Word) → endsWith w key ≡ true → endsWith w k ≡ true → compatible key k ≡ true
 fits w key k p q = by (leb (length k) (length key))
     (λ t. ap (λ (b : Bool). either b (endsWith k key)) (ends-shorter w key k p q (leb-true (length k) (length key) t)))
     (λ t. either-right (endsWith key k) (endsWith k key) (ends-shorter w k key q p (omega (arith, leb-false (length k) (length key) t))))

@@ -21,42 +21,57 @@ use Rattle.definition.proofs.Match.{both-0, both-1, ends-split}
 use Rattle.definition.proofs.Found.{Taken, taken-some, all, all-at}
 use Rattle.definition.proofs.Triples.{Ends, Keeps, keeps-first, keeps-then, keeps-if, does-again, ends-after}
 
+-- a step of the noun
+abbrev pub Nominal : SuffixStep → Type 0
+Nominal verbStep1 = ⊥
+Nominal verbStep2a = ⊥
+Nominal verbStep2b = ⊥
+Nominal verbStep2c = ⊥
+Nominal nounStep1a = Unit {0}
+Nominal nounStep1b = Unit {0}
+Nominal nounStep2a = Unit {0}
+Nominal nounStep2b = Unit {0}
+Nominal nounStep2c1 = Unit {0}
+Nominal nounStep2c2 = Unit {0}
+Nominal nounStep3 = Unit {0}
+
+nothing-keeps : (P : Cutting → Type 0) → Keeps P nothing
+nothing-keeps P v p = p
+
+-- ---- what every cut of the noun keeps, the noun keeps
+pub noun-keeps : (P : Cutting → Type 0) → ((s : SuffixStep) → Nominal s → Keeps P (cut s)) → (k : Kind) → Keeps P (noun k)
+unfolding noun
+noun-keeps P cut-keeps k =
+    keeps-then P _ _
+    (keeps-first P _ (
+      cut-keeps nounStep2c2 tt,
+      (
+        keeps-if P k _ (keeps-then P _ _ (cut-keeps nounStep1a tt)
+            (keeps-first P _ (cut-keeps nounStep2a tt, (cut-keeps nounStep2b tt, (cut-keeps nounStep2c1 tt, (nothing-keeps P, tt)))))),
+        (
+          keeps-then P _ _ (cut-keeps nounStep1b tt) (keeps-first P _ (cut-keeps nounStep2a tt, (cut-keeps nounStep2b tt, (cut-keeps nounStep2c1 tt, tt)))),
+          (keeps-if P k _ (cut-keeps nounStep2a tt), (cut-keeps nounStep2b tt, (nothing-keeps P, tt))),
+        ),
+      ),
+    ))
+    (cut-keeps nounStep3 tt)
+
 -- ---- what every cut keeps, all endings together keep
 module _ (P : Cutting → Type 0) (cut-keeps : (s : SuffixStep) → Keeps P (cut s)) where
-  nothing-keeps : Keeps P nothing
-  nothing-keeps v p = p
-
-  pub verb-keeps : Keeps P verb
+  verb-keeps : Keeps P verb
   unfolding verb
   verb-keeps v =
       keeps-first P _ (
         keeps-then P _ _
             (keeps-then P _ _ (cut-keeps verbStep1) (does-again P P (length (v .text)) (cut verbStep1) (cut-keeps verbStep1)))
-            (keeps-first P _ (cut-keeps verbStep2a, (cut-keeps verbStep2c, (nothing-keeps, tt)))),
+            (keeps-first P _ (cut-keeps verbStep2a, (cut-keeps verbStep2c, (nothing-keeps P, tt)))),
         (cut-keeps verbStep2b, (cut-keeps verbStep2a, tt)),
       ) v
 
-  pub noun-keeps : (k : Kind) → Keeps P (noun k)
-  unfolding noun
-  noun-keeps k =
-      keeps-then P _ _
-      (keeps-first P _ (
-        cut-keeps nounStep2c2,
-        (
-          keeps-if P k _ (keeps-then P _ _ (cut-keeps nounStep1a)
-              (keeps-first P _ (cut-keeps nounStep2a, (cut-keeps nounStep2b, (cut-keeps nounStep2c1, (nothing-keeps, tt)))))),
-          (
-            keeps-then P _ _ (cut-keeps nounStep1b) (keeps-first P _ (cut-keeps nounStep2a, (cut-keeps nounStep2b, (cut-keeps nounStep2c1, tt)))),
-            (keeps-if P k _ (cut-keeps nounStep2a), (cut-keeps nounStep2b, (nothing-keeps, tt))),
-          ),
-        ),
-      ))
-      (cut-keeps nounStep3)
-
-  pub endings-keep : (k : Kind) (n : Word) → P (record { text = n; cuts = [] }) → P (after (endings k n))
+  endings-keep : (k : Kind) (n : Word) → P (record { text = n; cuts = [] }) → P (after (endings k n))
   unfolding endings
   endings-keep k n p = ends-after P (endings k n)
-      (keeps-first P _ (keeps-if P k verb verb-keeps, (noun-keeps k, tt)) (record { text = n; cuts = [] }) p)
+      (keeps-first P _ (keeps-if P k verb verb-keeps, (noun-keeps P (λ s t. cut-keeps s) k, tt)) (record { text = n; cuts = [] }) p)
 
 -- ---- every row of an ending has a letter, and its guard is two letters more at least
 abbrev fits : List ℕ → Row → Bool

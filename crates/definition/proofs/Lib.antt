@@ -1,5 +1,6 @@
 pub mod Main
 pub mod Examples
+pub mod Stays
 pub mod Rows
 pub mod Match
 pub mod Found
@@ -10,6 +11,7 @@ pub mod Cutting
 pub mod Cover
 pub mod Step1a
 pub mod Again
+pub mod NoonAlef
 pub mod Fronting
 pub mod Lengths
 pub mod Whole

@@ -22,6 +22,7 @@ use Rattle.definition.proofs.Found.{Longest}
 use Rattle.definition.proofs.Unique.{distinct, rigid-front, rigid-end, longest-is}
 use Rattle.definition.proofs.Step1a.{Idle, AllSteps, notStep1a, no-step1a}
 use Rattle.definition.proofs.Again.{again-ends}
+use Rattle.definition.proofs.NoonAlef.{AllCuts, NotNoonAlef, no-noon-alef}
 use Rattle.definition.proofs.Only.{demand3-only, cutWord, no-cuts}
 use Rattle.definition.proofs.Demand3.{demand3}
 
@@ -60,6 +61,10 @@ main-again = again-ends
 -- the noun's Step1a cuts in no word
 pub main-step1a : (k : Kind) (n : Word) → AllSteps notStep1a (cutting k n .cuts)
 main-step1a = no-step1a
+
+-- the row 0646 0627 of the verb's Step2a cuts in no word
+pub main-noon-alef : (k : Kind) (n : Word) → AllCuts NotNoonAlef (cutting k n .cuts)
+main-noon-alef = no-noon-alef
 
 -- the letters that items 5 and 3 name in words are the rows of A_1, A_2 and A_21
 pub main-last : (c : ℕ) → last c ≡ replaced «A_1» (hamza ∷ hamza ∷ hamza ∷ []) c

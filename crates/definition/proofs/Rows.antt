@@ -1,19 +1,19 @@
 -- The letters that items 3 and 5 name in words are the rows of A_21, A_1 and A_2, with what the Rust's steps put for each class. Assumes nothing.
-use mathlib.Core.Path.{_≡_, refl, sym, ap, subst}
-use mathlib.Core.Bool.{Bool, true}
+use mathlib.Core.Path.{_≡_, refl, sym, subst}
+use mathlib.Core.Bool.{true}
 use mathlib.Core.List.{List, [], _∷_}
-use Prim.Native.Nat.{ℕ, _≤_}
-use native.Mathlib.Omega.{arith}
-use lib.Dec.{eqb, leb}
+use Prim.Native.Nat.{ℕ}
+use lib.Dec.{eqb}
 use lib.ListN.{getD}
-use borrow.Author.Tests.{eqb-true, eqb-false, leb-true}
+use borrow.Author.Tests.{eqb-true, eqb-false}
 use Rattle.definition.specs.Letters.{hamza, alefMadda, alefHamzaAbove, wawHamza, alefHamzaBelow, yehHamza, alef, waw, alefMaksura, yeh}
-use Rattle.definition.specs.Words.{pick, both, same, beginsWith}
+use Rattle.definition.specs.Words.{same, beginsWith}
 use Rattle.definition.specs.Tables.{Table, «A_1», «A_2», «A_21»}
 use Rattle.definition.specs.Search.{rowAt, longer, longest}
 use Rattle.definition.specs.Endings.{suffixAllAlefMaqsura}
 use Rattle.definition.specs.Finish.{last, other}
-use Rattle.definition.proofs.Match.{by, both-0, both-1}
+use Rattle.definition.proofs.Match.{by}
+use Rattle.definition.proofs.Stays.{last-stays}
 
 -- the letter c, or what its row's class gives
 abbrev pub replaced : Table → List ℕ → ℕ → ℕ
@@ -22,15 +22,6 @@ replaced t letters c = getD (c ∷ letters) (rowAt t (longest (beginsWith (c ∷
 -- two functions that agree at k agree at c, where c is k
 agree-at : (f g : ℕ → ℕ) (c k : ℕ) → f k ≡ g k → eqb c k ≡ true → f c ≡ g c
 agree-at f g c k e t = subst (λ (x : ℕ). f x ≡ g x) (sym (eqb-true c k t)) e
-
-last-stays : (c : ℕ) → (c ≡ alefMadda → ⊥) → (c ≡ alefHamzaAbove → ⊥) → (c ≡ wawHamza → ⊥) → (c ≡ alefHamzaBelow → ⊥) → (c ≡ yehHamza → ⊥) → last c ≡ c
-unfolding last
-last-stays c a b d e f = by (both (leb alefMadda c) (leb c yehHamza))
-    (λ t.
-    let low : alefMadda ≤ c = leb-true alefMadda c (both-0 (leb alefMadda c) (leb c yehHamza) t) in
-    let high : c ≤ yehHamza = leb-true c yehHamza (both-1 (leb alefMadda c) (leb c yehHamza) t) in
-    absurd (omega arith))
-    (λ t. ap (λ (x : Bool). pick x hamza c) t)
 
 pub last-rows : (c : ℕ) → last c ≡ replaced «A_1» (hamza ∷ hamza ∷ hamza ∷ []) c
 unfolding last «A_1» longest longer same beginsWith

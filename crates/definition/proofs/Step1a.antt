@@ -22,12 +22,12 @@ abbrev pub Idle : SuffixStep → Cutting → Type 0
 Idle s v = taken (endsWith (v .text)) (suffix s) (length (v .text)) ≡ none
 
 -- ---- each row of Step1a is taken by the verb's Step1 or by its Step2a
-abbrev coveredRow : SuffixStep → Row → Bool
+abbrev pub coveredRow : SuffixStep → Row → Bool
 coveredRow s k =
     pick (covers (suffix verbStep1) (k .letters) (guard (suffix s .guards) (k .class))) true
     (covers (suffix verbStep2a) (k .letters) (guard (suffix s .guards) (k .class)))
 
-covered-1a : all (coveredRow nounStep1a) (suffix nounStep1a .table) ≡ true
+pub covered-1a : all (coveredRow nounStep1a) (suffix nounStep1a .table) ≡ true
 unfolding suffix «A_10» «A_17» «A_18» endsWith same longest longer
 covered-1a = refl
 
@@ -63,7 +63,7 @@ abbrev pub AllSteps : (SuffixStep → Type 0) → List Cut → Type 0
 AllSteps P [] = Unit {0}
 AllSteps P (c ∷ cs) = P (c .step) × AllSteps P cs
 
-abbrev Spared : Cutting → Type 0
+abbrev pub Spared : Cutting → Type 0
 Spared v = AllSteps notStep1a (v .cuts)
 
 cut-spares : (s : SuffixStep) → notStep1a s → Keeps Spared (cut s)
@@ -116,7 +116,7 @@ module _ (w : Cutting) (start : Spared w) where
   abbrev One : Cutting → Type 0
   One v = (v ≡ w) × Idle verbStep1 w
 
-  verb-ends : Ends Spared Untaken (verb w)
+  pub verb-ends : Ends Spared Untaken (verb w)
   unfolding verb
   verb-ends =
       does-or Here Spared Untaken One _ (cut verbStep2b ∷ cut verbStep2a ∷ [])

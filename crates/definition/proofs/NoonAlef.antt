@@ -1,0 +1,133 @@
+-- The row 0646 0627 of A_18 cuts in no word: where the verb's Step2a is tried, Step1 takes no row, and it would take this one. Assumes nothing.
+use mathlib.Core.Path.{_≡_, refl, sym, subst}
+use mathlib.Core.Bool.{true}
+use mathlib.Core.List.{List, [], _∷_}
+use mathlib.Core.Option.{Option, none, some}
+use Prim.Native.Nat.{ℕ, _≤_, _<_}
+use native.Mathlib.Omega.{arith}
+use lib.ListN.{length}
+use Rattle.definition.specs.Letters.{alef, noon}
+use Rattle.definition.specs.Words.{Word, same, endsWith}
+use Rattle.definition.specs.Tables.{«A_17», «A_18»}
+use Rattle.definition.specs.Search.{longer, longest, taken}
+use Rattle.definition.specs.Tries.{Try, done, nothing, _thenTry_, firstOf, again}
+use Rattle.definition.specs.Kind.{Kind, OPEN, DEFINED, ifOpen}
+use Rattle.definition.specs.Endings.{SuffixStep, verbStep1, verbStep2a, verbStep2b, verbStep2c, nounStep1a, nounStep1b, nounStep2a, nounStep2b, nounStep2c1, nounStep2c2, nounStep3, suffix, Cut, Cutting, cutOff, cutBy, cut, verb, noun, endings}
+use Rattle.definition.specs.Stem.{cutting}
+use Rattle.definition.proofs.Found.{taken-some}
+use Rattle.definition.proofs.Triples.{Ends, Does, Keeps, ends-after, weaker, does-then, does-or, does-last, does-again, keeps-first, keeps-if}
+use Rattle.definition.proofs.Cutting.{Nominal, noun-keeps}
+use Rattle.definition.proofs.Cover.{covers, cover}
+use Rattle.definition.proofs.Step1a.{Idle}
+use Rattle.definition.proofs.Again.{shorter, again-ends}
+
+-- the row's number in A_18
+abbrev pub noonAlef : ℕ
+noonAlef = 8
+
+-- a cut by another row or another step
+abbrev pub NotNoonAlef : SuffixStep → ℕ → Type 0
+NotNoonAlef verbStep1 r = Unit {0}
+NotNoonAlef verbStep2a r = r ≡ noonAlef → ⊥
+NotNoonAlef verbStep2b r = Unit {0}
+NotNoonAlef verbStep2c r = Unit {0}
+NotNoonAlef nounStep1a r = Unit {0}
+NotNoonAlef nounStep1b r = Unit {0}
+NotNoonAlef nounStep2a r = Unit {0}
+NotNoonAlef nounStep2b r = Unit {0}
+NotNoonAlef nounStep2c1 r = Unit {0}
+NotNoonAlef nounStep2c2 r = Unit {0}
+NotNoonAlef nounStep3 r = Unit {0}
+
+abbrev pub AllCuts : (SuffixStep → ℕ → Type 0) → List Cut → Type 0
+AllCuts P [] = Unit {0}
+AllCuts P (c ∷ cs) = P (c .step) (c .row) × AllCuts P cs
+
+abbrev Spared : Cutting → Type 0
+Spared v = AllCuts NotNoonAlef (v .cuts)
+
+-- what is known where the row could be taken decides whether a cut spares it
+cut-does : (s : SuffixStep) (v : Cutting) → Spared v → ((r : ℕ) → taken (endsWith (v .text)) (suffix s) (length (v .text)) ≡ some r → NotNoonAlef s r)
+    → Ends Spared (λ (x : Cutting). (x ≡ v) × Idle s v) (cut s v)
+unfolding cut cutOff
+cut-does s v h f = go (taken (endsWith (v .text)) (suffix s) (length (v .text))) refl
+  where
+    go : (o : Option ℕ) → taken (endsWith (v .text)) (suffix s) (length (v .text)) ≡ o → Ends Spared (λ (x : Cutting). (x ≡ v) × Idle s v) (cutBy s v o)
+    go none e = (refl, e)
+    go (some r) e = (f r e, h)
+
+cut-spares : (s : SuffixStep) → ((r : ℕ) → NotNoonAlef s r) → Keeps Spared (cut s)
+cut-spares s f v h = weaker Spared (λ (x : Cutting). (x ≡ v) × Idle s v) Spared Spared (λ x p. p) (λ x p. subst Spared (sym (p .0)) h) (cut s v) (cut-does s v h (λ r e. f r))
+
+-- ---- Step2a where Step1 takes no row
+covered : covers (suffix verbStep1) (noon ∷ alef ∷ []) 5 ≡ true
+unfolding suffix «A_17» endsWith same longest longer
+covered = refl
+
+not-taken : (v : Cutting) → Idle verbStep1 v → (r : ℕ) → taken (endsWith (v .text)) (suffix verbStep2a) (length (v .text)) ≡ some r → r ≡ noonAlef → ⊥
+unfolding suffix «A_18»
+not-taken v idle r e q =
+    let tk = taken-some (endsWith (v .text)) (suffix verbStep2a) (length (v .text)) noonAlef (subst (λ (i : ℕ). taken (endsWith (v .text)) (suffix verbStep2a) (length (v .text)) ≡ some i) q e) in
+    cover (suffix verbStep1) (v .text) (noon ∷ alef ∷ []) 5 (length (v .text)) covered (tk .matches) (tk .enough) idle
+
+abbrev Ready : Cutting → Type 0
+Ready v = Spared v × Idle verbStep1 v
+
+step2a-does : Does Ready Spared Ready (cut verbStep2a)
+step2a-does v h =
+    weaker Spared (λ (x : Cutting). (x ≡ v) × Idle verbStep2a v) Spared Ready (λ x p. p) (λ x p. subst Ready (sym (p .0)) h) (cut verbStep2a v)
+    (cut-does verbStep2a v (h .0) (not-taken v (h .1)))
+
+-- ---- the verb
+step1-does : (w : Cutting) → Does (λ (v : Cutting). (v ≡ w) × Spared w) (λ (x : Cutting). Spared x × (length (x .text) < length (w .text))) (λ (x : Cutting). Ready x) (cut verbStep1)
+unfolding cut cutOff
+step1-does w v h = subst (λ (u : Cutting). Ends (λ (x : Cutting). Spared x × (length (x .text) < length (w .text))) Ready (cut verbStep1 u)) (sym (h .0)) (go (taken (endsWith (w .text)) (suffix verbStep1) (length (w .text))) refl)
+  where
+    go : (o : Option ℕ) → taken (endsWith (w .text)) (suffix verbStep1) (length (w .text)) ≡ o
+        → Ends (λ (x : Cutting). Spared x × (length (x .text) < length (w .text))) Ready (cutBy verbStep1 w o)
+    go none e = (h .1, e)
+    go (some r) e = ((tt, h .1), shorter verbStep1 w r e)
+
+again-does : (n : ℕ) → Does (λ (v : Cutting). Spared v × (length (v .text) < n)) Ready Ready (again n (cut verbStep1))
+again-does n v h =
+    let a = again-ends verbStep1 n v (omega (arith, h .1)) in
+    let b = does-again Spared Ready n (cut verbStep1) (cut-spares verbStep1 (λ r. tt)) v (h .0) in
+    subst (λ (t : Try Cutting). Ends Ready Ready t) (sym (a .1)) (subst (λ (t : Try Cutting). Ends Spared Ready t) (a .1) b, a .2)
+
+verb-spares : Keeps Spared verb
+unfolding verb
+verb-spares w h =
+    does-or Start Spared Spared Ready _ (cut verbStep2b ∷ cut verbStep2a ∷ [])
+    (does-then Start Spared Ready Ready (cut verbStep1 thenTry again (length (w .text)) (cut verbStep1)) (firstOf (cut verbStep2a ∷ cut verbStep2c ∷ nothing ∷ []))
+    (does-then Start Ready Ready (λ (v : Cutting). Spared v × (length (v .text) < length (w .text))) (cut verbStep1) (again (length (w .text)) (cut verbStep1))
+    (step1-does w) (again-does (length (w .text))))
+    (does-or Ready Spared Ready Ready _ _ step2a-does
+    (does-or Ready Spared Ready Spared (cut verbStep2c) (nothing ∷ []) (λ v r. cut-spares verbStep2c (λ i. tt) v (r .0)) (does-or Spared Spared Ready Never nothing [] (λ v q. q) (λ v z. absurd z)))))
+    (does-or Ready Spared Spared Ready (cut verbStep2b) (cut verbStep2a ∷ [])
+    (λ v r. weaker Spared (λ (x : Cutting). (x ≡ v) × Idle verbStep2b v) Spared Ready (λ x p. p) (λ x p. subst Ready (sym (p .0)) r) (cut verbStep2b v) (cut-does verbStep2b v (r .0) (λ i e. tt)))
+    (does-or Ready Spared Spared Ready (cut verbStep2a) [] step2a-does (λ v r. does-last Spared Spared v (r .0))))
+    w (refl, h)
+  where
+    Start : Cutting → Type 0
+    Start v = (v ≡ w) × Spared w
+
+    Never : Cutting → Type 0
+    Never v = ⊥
+
+pub no-noon-alef : (k : Kind) (n : Word) → AllCuts NotNoonAlef (cutting k n .cuts)
+unfolding cutting endings
+no-noon-alef k n = ends-after Spared (endings k n)
+    (keeps-first Spared (ifOpen k verb ∷ noun k ∷ []) (keeps-if Spared k verb verb-spares, (noun-keeps Spared noun-cuts k, tt)) (record { text = n; cuts = [] }) tt)
+  where
+    noun-cuts : (s : SuffixStep) → Nominal s → Keeps Spared (cut s)
+    noun-cuts verbStep1 z = absurd z
+    noun-cuts verbStep2a z = absurd z
+    noun-cuts verbStep2b z = absurd z
+    noun-cuts verbStep2c z = absurd z
+    noun-cuts nounStep1a t = cut-spares nounStep1a (λ r. tt)
+    noun-cuts nounStep1b t = cut-spares nounStep1b (λ r. tt)
+    noun-cuts nounStep2a t = cut-spares nounStep2a (λ r. tt)
+    noun-cuts nounStep2b t = cut-spares nounStep2b (λ r. tt)
+    noun-cuts nounStep2c1 t = cut-spares nounStep2c1 (λ r. tt)
+    noun-cuts nounStep2c2 t = cut-spares nounStep2c2 (λ r. tt)
+    noun-cuts nounStep3 t = cut-spares nounStep3 (λ r. tt)

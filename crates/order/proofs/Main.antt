@@ -1,0 +1,16 @@
+-- What is shown of the order of the steps: the main theorems of this crate. Assumes nothing.
+use mathlib.Core.Path.{_≡_}
+use Rattle.definition.specs.Words.{Word}
+use Rattle.definition.specs.Stem.{stem}
+use Rattle.order.specs.Order.{unexchanged, stemBy}
+use Rattle.order.specs.Settled.{AllHold, settled}
+use Rattle.order.proofs.Same.{same}
+use Rattle.order.proofs.Settled.{settled-hold}
+
+-- with nothing exchanged, the stem is the definition's
+pub main-same : (w : Word) → stemBy unexchanged w ≡ stem w
+main-same = same
+
+-- of each two neighbouring steps, exchanged: a word's stem changes, or no word's
+pub main-order : AllHold settled
+main-order = settled-hold

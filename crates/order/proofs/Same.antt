@@ -1,0 +1,95 @@
+-- With nothing exchanged, the stem is the definition's. Assumes nothing.
+use mathlib.Core.Path.{_≡_, refl, sym, ap, _∙_}
+use mathlib.Core.Bool.{Bool, true, false}
+use mathlib.Core.Logic.{inl, inr}
+use mathlib.Core.List.{List, [], _∷_, map}
+use Prim.Native.Nat.{ℕ}
+use native.Mathlib.Omega.{arith}
+use lib.Dec.{leb}
+use borrow.Author.Tests.{leb-true, leb-false}
+use Rattle.definition.specs.Letters.{hamza, alefMadda, yehHamza, alefMaksura}
+use Rattle.definition.specs.Words.{Word, pick, both, endsWith}
+use Rattle.definition.specs.Tries.{Step, Try, done, failed, after, orElse, andThen, _thenTry_, firstOf, attempt}
+use Rattle.definition.specs.Kind.{Kind, ifOpen, kind}
+use Rattle.definition.specs.Normal.{normalise}
+use Rattle.definition.specs.Endings.{Cutting, verb, noun, endings, suffixAllAlefMaqsura, maqsuraIfFailed}
+use Rattle.definition.specs.Fronts.{prefixStep3aNoun, prefixStep3bNoun, Fronting, text, apply, prefixSteps, started, fronts}
+use Rattle.definition.specs.Finish.{last, other, finish}
+use Rattle.definition.specs.Stem.{cutting, fronting, stemOf, stem}
+use Rattle.definition.proofs.Match.{by}
+use Rattle.definition.proofs.Stays.{other-stays, maqsura-stays}
+use Rattle.definition.proofs.Changed.{Outside, outside}
+use Rattle.order.specs.Order.{Pair, pair, unexchanged, exchanged, ordered, inTurn, allOf, fromHere, backIfFailed, maqsura, lastLetter, allLetters, verbBy, nounBy, endingsBy, prefixStepsBy, finishBy, stemBy}
+use Rattle.order.proofs.Exchange.{Clean, first-fails, first-succeeds}
+use Rattle.order.proofs.Fronts.{third-from, bare, verb-fronts, apply-clean, here-clean, here-fails}
+
+-- ---- item 3
+maqsura-step : (x : Cutting) → after (firstOf (maqsura ∷ []) x) .text ≡ suffixAllAlefMaqsura (x .text)
+unfolding firstOf maqsura
+maqsura-step x = by (endsWith (x .text) (alefMaksura ∷ []))
+    (λ t. rw t refl)
+    (λ t. rw t (sym (maqsura-stays (x .text) t)))
+
+three : (f g : Step Cutting) (w : Cutting)
+    → after (firstOf (f ∷ g ∷ maqsura ∷ []) w) .text ≡ maqsuraIfFailed (firstOf (f ∷ g ∷ []) w) (after (firstOf (f ∷ g ∷ []) w) .text)
+unfolding firstOf maqsuraIfFailed
+three f g w = one (f w)
+  where
+    two : (t : Try Cutting) → after (orElse t (firstOf (maqsura ∷ []))) .text ≡ maqsuraIfFailed (orElse t (firstOf [])) (after (orElse t (firstOf [])) .text)
+    two (done b) = refl
+    two (failed b) = maqsura-step b
+
+    one : (t : Try Cutting) → after (orElse t (firstOf (g ∷ maqsura ∷ []))) .text ≡ maqsuraIfFailed (orElse t (firstOf (g ∷ []))) (after (orElse t (firstOf (g ∷ []))) .text)
+    one (done b) = refl
+    one (failed b) = two (g b)
+
+endings-same : (k : Kind) (n : Word) → after (endingsBy unexchanged k n) .text ≡ maqsuraIfFailed (endings k n) (cutting k n .text)
+unfolding endingsBy verbBy nounBy ordered inTurn endings verb noun cutting
+endings-same k n = three (ifOpen k verb) (noun k) (record { text = n; cuts = [] })
+
+-- ---- item 4
+module _ (f : Fronting) (e : f .passed ≡ []) where
+  first-same : (g : Step Fronting) (fs : List (Step Fronting)) → Clean g f → text (after (firstOf (map fromHere fs) f)) ≡ text (after (firstOf fs f))
+      → text (after (firstOf (map fromHere (g ∷ fs)) f)) ≡ text (after (firstOf (g ∷ fs) f))
+  first-same g fs (inl s) h = ap (λ (x : Try Fronting). text (after x)) (first-succeeds (fromHere g) (map fromHere fs) f (s .0, ap backIfFailed (s .1)) ∙ sym (first-succeeds g fs f s))
+  first-same g fs (inr p) h =
+      ap (λ (x : Try Fronting). text (after x)) (first-fails (fromHere g) (map fromHere fs) f (here-fails g f e p)) ∙ h
+      ∙ sym (ap (λ (x : Try Fronting). text (after x)) (first-fails g fs f p))
+
+  last-same : (g : Step Fronting) → text (after (firstOf (map fromHere (g ∷ [])) f)) ≡ text (after (firstOf (g ∷ []) f))
+  unfolding firstOf
+  last-same g = go (g f)
+    where
+      go : (t : Try Fronting) → text (after (orElse (backIfFailed t) (firstOf []))) ≡ text (after (orElse t (firstOf [])))
+      go (done x) = refl
+      go (failed x) = refl
+
+fronts-same : (k : Kind) (n : Word) → text (after (prefixStepsBy unexchanged k (started n))) ≡ text (fronts k n)
+unfolding prefixStepsBy ordered inTurn fronts prefixSteps _thenTry_ attempt third-from
+fronts-same k n =
+    first-same (third-from n) (bare n) (apply prefixStep3aNoun) (apply prefixStep3bNoun ∷ verb-fronts k ∷ []) (apply-clean prefixStep3aNoun (third-from n))
+    (first-same (third-from n) (bare n) (apply prefixStep3bNoun) (verb-fronts k ∷ []) (apply-clean prefixStep3bNoun (third-from n)) (last-same (third-from n) (bare n) (verb-fronts k)))
+
+-- ---- item 5
+other-last : (c : ℕ) → other (last c) ≡ last c
+unfolding last other
+other-last c = by (both (leb alefMadda c) (leb c yehHamza))
+    (λ t. rw t refl)
+    (λ t. rw t (go (outside c t)))
+  where
+    go : Outside c → other c ≡ c
+    go (inl h) = other-stays c (λ e. omega arith) (λ e. omega arith) (λ e. omega arith) (λ e. omega arith) (λ e. omega arith)
+    go (inr h) = other-stays c (λ e. omega arith) (λ e. omega arith) (λ e. omega arith) (λ e. omega arith) (λ e. omega arith)
+
+finish-same : (w : Word) → finishBy unexchanged w ≡ finish w
+unfolding finishBy ordered allOf lastLetter allLetters finish
+finish-same [] = refl
+finish-same (c ∷ []) = ap (λ (x : ℕ). x ∷ []) (other-last c)
+finish-same (c ∷ d ∷ w) = ap (λ (x : Word). other c ∷ x) (finish-same (d ∷ w))
+
+pub same : (w : Word) → stemBy unexchanged w ≡ stem w
+unfolding stemBy ordered allOf stem stemOf fronting
+same w =
+    finish-same _
+    ∙ ap finish (fronts-same (kind w) (after (endingsBy unexchanged (kind w) (normalise w)) .text)
+    ∙ ap (λ (n : Word). text (fronts (kind w) n)) (endings-same (kind w) (normalise w)))

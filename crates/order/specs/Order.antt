@@ -1,0 +1,176 @@
+-- The stem with two neighbouring steps exchanged, for the question why a step stands where it does.
+use Prim.Native.Nat.{ℕ, zero, suc}
+use mathlib.Core.List.{List, [], _∷_, _++_, map}
+use lib.Dec.{eqb}
+use lib.ListN.{length}
+use Rattle.definition.specs.Letters.{alefMaksura}
+use Rattle.definition.specs.Words.{Word, pick, endsWith}
+use Rattle.definition.specs.Tries.{Step, Try, done, failed, after, nothing, _thenTry_, firstOf, again, attempt}
+use Rattle.definition.specs.Kind.{Kind, OPEN, ifOpen, kind}
+use Rattle.definition.specs.Normal.{normalise}
+use Rattle.definition.specs.Endings.{verbStep1, verbStep2a, verbStep2b, verbStep2c, nounStep1a, nounStep1b, nounStep2a, nounStep2b, nounStep2c1, nounStep2c2, nounStep3, Cutting, cut, suffixAllAlefMaqsura}
+use Rattle.definition.specs.Fronts.{prefixStep1, prefixStep2, prefixStep3aNoun, prefixStep3bNoun, prefixStep3Verb, prefixStep4Verb, Fronting, text, apply, started}
+use Rattle.definition.specs.Finish.{last, other}
+
+-- The places where steps stand in an order: they follow each other, or the first that succeeds is taken.
+pub data Place : Type 0 where
+  -- kind check, normalising, endings, fronts, finishing
+  way : Place
+  -- the first of: the verb, the noun, the last 0649
+  ends : Place
+  -- the first of: the verb's Step1 and what follows it, Step2b, Step2a
+  verbs : Place
+  -- Step1 as often as it cuts, and its sequel; the first of: Step2a, Step2c, nothing
+  verbTurns verbSequel : Place
+  -- what comes first, and Step3; the first of: Step2c2, Step1a and sequel, Step1b and sequel, Step2a, Step2b, nothing
+  nounTurns nouns : Place
+  -- Step1a and its sequel; the first of: Step2a, Step2b, Step2c1, nothing
+  step1aTurns step1aSequel : Place
+  -- Step1b and its sequel; the first of: Step2a, Step2b, Step2c1
+  step1bTurns step1bSequel : Place
+  -- Step1, Step2, and what follows; the first of: Step3a_Noun, Step3b_Noun, the verb's fronts; Step3_Verb and Step4_Verb
+  fronts thirds verbFronts : Place
+  -- the last letter, the other letters
+  finishing : Place
+  -- no step stands here
+  nowhere : Place
+
+abbrev pub placeNumber : Place → ℕ
+placeNumber way = 0
+placeNumber ends = 1
+placeNumber verbs = 2
+placeNumber verbTurns = 3
+placeNumber verbSequel = 4
+placeNumber nounTurns = 5
+placeNumber nouns = 6
+placeNumber step1aTurns = 7
+placeNumber step1aSequel = 8
+placeNumber step1bTurns = 9
+placeNumber step1bSequel = 10
+placeNumber fronts = 11
+placeNumber thirds = 12
+placeNumber verbFronts = 13
+placeNumber finishing = 14
+placeNumber nowhere = 15
+
+-- two neighbours: their place, and the number of the first of them, from 0
+pub record Pair : Type 0 where
+  pub place : Place
+  pub first : ℕ
+
+abbrev pub pair : Place → ℕ → Pair
+pair p i = record { place = p; first = i }
+
+abbrev pub unexchanged : Pair
+unexchanged = pair nowhere 0
+
+module _ {A : Type 0} where
+  -- the entries i and i + 1 exchanged
+  unfoldable pub exchanged : ℕ → List A → List A
+  exchanged i [] = []
+  exchanged i (f ∷ []) = f ∷ []
+  exchanged zero (f ∷ g ∷ fs) = g ∷ f ∷ fs
+  exchanged (suc i) (f ∷ g ∷ fs) = f ∷ exchanged i (g ∷ fs)
+
+  -- the steps of the place p, where the pair x changes places
+  unfoldable pub ordered : Pair → Place → List A → List A
+  ordered x p fs = pick (eqb (placeNumber (x .place)) (placeNumber p)) (exchanged (x .first) fs) fs
+
+  -- steps that follow each other, as long as they succeed
+  unfoldable pub inTurn : List (Step A) → Step A
+  inTurn [] = nothing
+  inTurn (f ∷ []) = f
+  inTurn (f ∷ g ∷ fs) = f thenTry inTurn (g ∷ fs)
+
+  -- changes one after the other
+  unfoldable pub allOf : List (A → A) → A → A
+  allOf [] a = a
+  allOf (f ∷ fs) a = allOf fs (f a)
+
+-- the last 0649 of item 3: it succeeds where the last letter is 0649
+unfoldable pub maqsura : Step Cutting
+maqsura v = pick (endsWith (v .text) (alefMaksura ∷ [])) (done (record { text = suffixAllAlefMaqsura (v .text); cuts = v .cuts })) (failed v)
+
+-- Item 4: where an alternative fails, the cursor goes back to where it stood before Step3, when nothing was passed yet.
+abbrev pub back : Fronting → Fronting
+back f = record { front = f .front; head = f .head; passed = []; rest = f .passed ++ f .rest; applied = f .applied }
+
+abbrev pub backIfFailed : Try Fronting → Try Fronting
+backIfFailed (done f) = done f
+backIfFailed (failed f) = failed (back f)
+
+abbrev pub fromHere : Step Fronting → Step Fronting
+fromHere g f = backIfFailed (g f)
+
+-- the two halves of item 5, as in the Rust: the last letter, then all letters
+unfoldable pub lastLetter : Word → Word
+lastLetter [] = []
+lastLetter (c ∷ []) = last c ∷ []
+lastLetter (c ∷ d ∷ w) = c ∷ lastLetter (d ∷ w)
+
+unfoldable pub allLetters : Word → Word
+allLetters w = map other w
+
+-- a word on its way, with the kind that it has so far
+pub record Under : Type 0 where
+  pub is : Kind
+  pub word : Word
+
+abbrev pub changed : (Kind → Word → Word) → Under → Under
+changed f u = record { is = u .is; word = f (u .is) (u .word) }
+
+module _ (x : Pair) where
+  unfoldable pub verbBy : Step Cutting
+  verbBy v = firstOf (ordered x verbs (
+      inTurn (ordered x verbTurns (
+      (cut verbStep1 thenTry again (length (v .text)) (cut verbStep1))
+      ∷ firstOf (ordered x verbSequel (cut verbStep2a ∷ cut verbStep2c ∷ nothing ∷ []))
+      ∷ []))
+      ∷ cut verbStep2b
+      ∷ cut verbStep2a
+      ∷ [])) v
+
+  unfoldable pub nounBy : Kind → Step Cutting
+  nounBy k = inTurn (ordered x nounTurns (
+      firstOf (ordered x nouns (
+      cut nounStep2c2
+      ∷ ifOpen k (inTurn (ordered x step1aTurns (
+      cut nounStep1a
+      ∷ firstOf (ordered x step1aSequel (cut nounStep2a ∷ cut nounStep2b ∷ cut nounStep2c1 ∷ nothing ∷ []))
+      ∷ [])))
+      ∷ inTurn (ordered x step1bTurns (
+      cut nounStep1b
+      ∷ firstOf (ordered x step1bSequel (cut nounStep2a ∷ cut nounStep2b ∷ cut nounStep2c1 ∷ []))
+      ∷ []))
+      ∷ ifOpen k (cut nounStep2a)
+      ∷ cut nounStep2b
+      ∷ nothing
+      ∷ []))
+      ∷ cut nounStep3
+      ∷ []))
+
+  unfoldable pub endingsBy : Kind → Word → Try Cutting
+  endingsBy k n = firstOf (ordered x ends (ifOpen k verbBy ∷ nounBy k ∷ maqsura ∷ [])) (record { text = n; cuts = [] })
+
+  unfoldable pub prefixStepsBy : Kind → Step Fronting
+  prefixStepsBy k = inTurn (ordered x fronts (
+      attempt (apply prefixStep1)
+      ∷ attempt (apply prefixStep2)
+      ∷ firstOf (map fromHere (ordered x thirds (
+      apply prefixStep3aNoun
+      ∷ apply prefixStep3bNoun
+      ∷ ifOpen k (inTurn (ordered x verbFronts (attempt (apply prefixStep3Verb) ∷ apply prefixStep4Verb ∷ [])))
+      ∷ [])))
+      ∷ []))
+
+  unfoldable pub finishBy : Word → Word
+  finishBy w = allOf (ordered x finishing (lastLetter ∷ allLetters ∷ [])) w
+
+  unfoldable pub stemBy : Word → Word
+  stemBy w = allOf (ordered x way (
+      (λ (u : Under). record { is = kind (u .word); word = u .word })
+      ∷ changed (λ (k : Kind) (n : Word). normalise n)
+      ∷ changed (λ (k : Kind) (n : Word). after (endingsBy k n) .text)
+      ∷ changed (λ (k : Kind) (n : Word). text (after (prefixStepsBy k (started n))))
+      ∷ changed (λ (k : Kind) (n : Word). finishBy n)
+      ∷ [])) (record { is = OPEN; word = w }) .word

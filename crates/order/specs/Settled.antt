@@ -1,0 +1,93 @@
+-- Each two neighbouring steps, and what comes of exchanging them: a word whose stem changes, or that no word shows it.
+use mathlib.Core.Path.{_≡_}
+use mathlib.Core.Bool.{false}
+use mathlib.Core.List.{List, [], _∷_}
+use Prim.Native.Nat.{ℕ}
+use Rattle.definition.specs.Words.{Word, same}
+use Rattle.definition.specs.Stem.{stem}
+use Rattle.order.specs.Order.{Place, way, ends, verbs, verbTurns, verbSequel, nounTurns, nouns, step1aTurns, step1aSequel, step1bTurns, step1bSequel, fronts, thirds, verbFronts, finishing, Pair, pair, stemBy}
+
+-- no word's stem changes
+abbrev pub Unshown : Pair → Type 0
+Unshown x = (w : Word) → stemBy x w ≡ stem w
+
+-- a word, its stem, and another stem with the two exchanged
+pub record Shown (x : Pair) (word is exchanged : Word) : Type 0 where
+  pub stem : stem word ≡ is
+  pub other : stemBy x word ≡ exchanged
+  pub differ : same is exchanged ≡ false
+
+pub data Verdict : Type 0 where
+  shown : Place → ℕ → Word → Word → Word → Verdict
+  unshown : Place → ℕ → Verdict
+
+abbrev pub Holds : Verdict → Type 0
+Holds (shown p i w s t) = Shown (pair p i) w s t
+Holds (unshown p i) = Unshown (pair p i)
+
+abbrev pub AllHold : List Verdict → Type 0
+AllHold [] = Unit {0}
+AllHold (v ∷ vs) = Holds v × AllHold vs
+
+-- In the order of a word's way. Each word shown is one of the fewest letters.
+unfoldable pub settled : List Verdict
+settled =
+    -- kind check | normalising
+    shown way 0 (0x627 ∷ 0x644 ∷ 0xFEFB ∷ []) (0x627 ∷ 0x644 ∷ 0x644 ∷ []) (0x627 ∷ 0x644 ∷ 0x644 ∷ 0x627 ∷ [])
+    -- normalising | endings
+    ∷ shown way 1 (0xFEEF ∷ []) (0x64A ∷ []) (0x649 ∷ [])
+    -- endings | fronts
+    ∷ shown way 2 (0x648 ∷ 0x642 ∷ 0x641 ∷ 0x647 ∷ []) (0x648 ∷ 0x642 ∷ 0x641 ∷ []) (0x642 ∷ 0x641 ∷ 0x647 ∷ [])
+    -- fronts | finishing
+    ∷ shown way 3 (0x623 ∷ 0x623 ∷ 0x62D ∷ 0x62F ∷ []) (0x627 ∷ 0x62D ∷ 0x62F ∷ []) (0x627 ∷ 0x627 ∷ 0x62D ∷ 0x62F ∷ [])
+    -- the verb | the noun
+    ∷ shown ends 0 (0x634 ∷ 0x628 ∷ 0x64A ∷ 0x647 ∷ []) (0x634 ∷ 0x628 ∷ 0x64A ∷ []) (0x634 ∷ 0x628 ∷ [])
+    -- the noun | the last 0649
+    ∷ shown ends 1 (0x642 ∷ 0x648 ∷ 0x649 ∷ 0x629 ∷ []) (0x642 ∷ 0x648 ∷ 0x64A ∷ []) (0x642 ∷ 0x648 ∷ 0x649 ∷ [])
+    -- the verb: Step1 and its sequel | Step2b
+    ∷ unshown verbs 0
+    -- Step2b | Step2a
+    ∷ shown verbs 1 (0x643 ∷ 0x62A ∷ 0x628 ∷ 0x648 ∷ 0x627 ∷ []) (0x643 ∷ 0x62A ∷ 0x628 ∷ []) (0x643 ∷ 0x62A ∷ 0x628 ∷ 0x648 ∷ [])
+    -- Step1 | its sequel
+    ∷ shown verbTurns 0 (0x64A ∷ 0x62F ∷ 0x639 ∷ 0x648 ∷ []) (0x64A ∷ 0x62F ∷ 0x639 ∷ 0x648 ∷ []) (0x64A ∷ 0x62F ∷ 0x639 ∷ [])
+    -- in the sequel: Step2a | Step2c
+    ∷ unshown verbSequel 0
+    -- Step2c | nothing
+    ∷ shown verbSequel 1 (0x643 ∷ 0x62A ∷ 0x628 ∷ 0x648 ∷ 0x647 ∷ []) (0x643 ∷ 0x62A ∷ 0x628 ∷ []) (0x643 ∷ 0x62A ∷ 0x628 ∷ 0x648 ∷ [])
+    -- the noun: what comes first | Step3
+    ∷ shown nounTurns 0 (0x634 ∷ 0x62C ∷ 0x631 ∷ 0x629 ∷ []) (0x634 ∷ 0x62C ∷ 0x631 ∷ []) (0x634 ∷ 0x62C ∷ 0x631 ∷ 0x629 ∷ [])
+    -- Step2c2 | Step1a
+    ∷ unshown nouns 0
+    -- Step1a | Step1b
+    ∷ unshown nouns 1
+    -- Step1b | Step2a
+    ∷ unshown nouns 2
+    -- Step2a | Step2b
+    ∷ unshown nouns 3
+    -- Step2b | nothing
+    ∷ shown nouns 4 (0x627 ∷ 0x644 ∷ 0x630 ∷ 0x627 ∷ 0x62A ∷ []) (0x627 ∷ 0x644 ∷ 0x630 ∷ []) (0x630 ∷ 0x627 ∷ 0x62A ∷ [])
+    -- Step1a | its sequel
+    ∷ shown step1aTurns 0 (0x645 ∷ 0x627 ∷ 0x631 ∷ 0x643 ∷ 0x648 ∷ []) (0x645 ∷ 0x627 ∷ 0x631 ∷ 0x643 ∷ []) (0x645 ∷ 0x627 ∷ 0x631 ∷ [])
+    -- in the sequel: Step2a | Step2b | Step2c1 | nothing
+    ∷ unshown step1aSequel 0
+    ∷ unshown step1aSequel 1
+    ∷ unshown step1aSequel 2
+    -- Step1b | its sequel
+    ∷ shown step1bTurns 0 (0x627 ∷ 0x644 ∷ 0x633 ∷ 0x62A ∷ []) (0x627 ∷ 0x644 ∷ 0x633 ∷ 0x62A ∷ []) (0x627 ∷ 0x644 ∷ 0x633 ∷ [])
+    -- in the sequel: Step2a | Step2b
+    ∷ unshown step1bSequel 0
+    -- Step2b | Step2c1
+    ∷ shown step1bSequel 1 (0x627 ∷ 0x644 ∷ 0x641 ∷ 0x627 ∷ 0x62A ∷ 0x646 ∷ []) (0x627 ∷ 0x644 ∷ 0x641 ∷ []) (0x627 ∷ 0x644 ∷ 0x641 ∷ 0x627 ∷ [])
+    -- the fronts: Step1 | Step2
+    ∷ shown fronts 0 (0x623 ∷ 0x623 ∷ 0x641 ∷ 0x631 ∷ 0x62D ∷ []) (0x627 ∷ 0x631 ∷ 0x62D ∷ []) (0x627 ∷ 0x641 ∷ 0x631 ∷ 0x62D ∷ [])
+    -- Step2 | what follows
+    ∷ shown fronts 1 (0x648 ∷ 0x643 ∷ 0x62A ∷ 0x628 ∷ []) (0x643 ∷ 0x62A ∷ 0x628 ∷ []) (0x648 ∷ 0x643 ∷ 0x62A ∷ 0x628 ∷ [])
+    -- Step3a_Noun | Step3b_Noun
+    ∷ unshown thirds 0
+    -- Step3b_Noun | the verb's fronts
+    ∷ unshown thirds 1
+    -- Step3_Verb | Step4_Verb
+    ∷ shown verbFronts 0 (0x633 ∷ 0x64A ∷ 0x643 ∷ 0x62A ∷ 0x628 ∷ []) (0x64A ∷ 0x643 ∷ 0x62A ∷ 0x628 ∷ []) (0x633 ∷ 0x64A ∷ 0x643 ∷ 0x62A ∷ 0x628 ∷ [])
+    -- finishing: the last letter | all letters
+    ∷ shown finishing 0 (0x623 ∷ []) (0x621 ∷ []) (0x627 ∷ [])
+    ∷ []
