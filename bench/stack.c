@@ -54,7 +54,7 @@ int main(void)
         for (size_t w = 0; w < sizeof words / sizeof *words; w++) {
             repeat(words[w].letter, words[w].n);
             size_t base = used(nothing), n = used(calls[c].call);
-            if (n - base > most && n > base) most = n - base;
+            if (n > base && n - base > most) most = n - base;
         }
         printf("%s %zu bytes\n", calls[c].name, most);
     }

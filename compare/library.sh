@@ -10,12 +10,7 @@ library_path() {
         realpath "$given"
         return
     fi
-    if [ -x "$root/build-library" ]; then
-        (cd "$root" && ./build-library) >&2 || { echo "./build-library failed" >&2; return 2; }
-    else
-        command -v rt >/dev/null || { echo "the Rattle toolchain is missing: put its command 'rt' on the PATH, or give a library by --library PATH" >&2; return 2; }
-        (cd "$root" && rt staticlib arabic_stemmer) >&2 || { echo "rt staticlib arabic_stemmer failed" >&2; return 2; }
-    fi
+    (cd "$root" && ./build-library) >&2 || { echo "./build-library failed; a library that is there already can be given by --library PATH" >&2; return 2; }
     local built=$root/target/staticlib/libarabic_stemmer.a
     [ -f "$built" ] || { echo "no target/staticlib/libarabic_stemmer.a after the build" >&2; return 2; }
     realpath "$built"

@@ -1,6 +1,7 @@
 """Reads the tables and steps out of the Rust's arabic.rs."""
 import os
 import re
+import subprocess
 import sys
 
 HERE = os.path.dirname(os.path.abspath(__file__))
@@ -16,12 +17,12 @@ def read(path):
         with open(path, encoding='utf-8') as file:
             return file.read()
     except OSError as error:
-        fail(f'{path} cannot be read ({error.strerror}): give the folder docs/src of the Rust source as the argument')
+        fail(f'{path} cannot be read ({error.strerror}): give the root folder of the crate rust-stemmers 1.2.0 as the argument')
 
 
-def docs_folder(arguments):
-    """The folder docs/src: the first argument, or the one that stands beside the repository."""
-    return arguments[0] if arguments else os.path.join(HERE, '..', '..', 'shared', 'docs', 'src')
+def docs_folder(given):
+    """The crate's root folder: the one that is given, or ../shared/docs/src beside the repository."""
+    return given or os.path.join(HERE, '..', '..', 'shared', 'docs', 'src')
 
 
 def arabic(docs):
@@ -50,8 +51,14 @@ class Step:
         self.table, self.guards, self.replacements = table, guards, replacements
 
 
+def function(source, name):
+    """The text of a function of the Rust."""
+    found = re.search(r'fn %s\(.*?\n}\n' % name, source, re.S)
+    return found.group(0) if found else fail(f'no function {name} in arabic.rs')
+
+
 def rust_step(source, name):
-    body = re.search(r'fn %s\(.*?\n}\n' % name, source, re.S).group(0)
+    body = function(source, name)
     table = int(re.search(r'find_among(?:_b)?\(A_(\d+),', body).group(1))
     guards, replacements = {}, {}
     branches = re.split(r'else if among_var == (\d+) \{', body)[1:]
@@ -62,3 +69,21 @@ def rust_step(source, name):
         made = re.search(r'slice_from\("((?:[^"\\]|\\.)*)"\)', branch)
         replacements[int(k)] = unescape(made.group(1)) if made else []
     return Step(table, guards, replacements)
+
+
+def hex_word(word):
+    return ' '.join('%X' % c for c in word)
+
+
+def answers(program, words):
+    """The fields that a program prints for each word: it reads a word a line, and parts the fields by tabs."""
+    given = ''.join(hex_word(w) + '\n' for w in words)
+    out = subprocess.run(program, input=given, capture_output=True, text=True, check=True).stdout
+    lines = [line.split('\t') for line in out.split('\n')[:-1]]
+    return lines if len(lines) == len(words) else fail(f'{len(lines)} answers of {program[0]} for {len(words)} words')
+
+
+def rust_answers(docs, folder, words):
+    """Stem, kind, normalised and finished word of each word, by the Rust built in the folder."""
+    subprocess.run([os.path.join(HERE, 'reference', 'build'), docs, folder], check=True)
+    return answers([os.path.join(folder, 'reference')], words)

@@ -1,4 +1,4 @@
-"""Reads tables and clauses out of the definition, crates/definition/specs."""
+"""Reads tables and clauses out of the definition, crates/definition/specs, and the pairs out of crates/order/specs."""
 import os
 import re
 
@@ -50,3 +50,11 @@ def words_of(text):
     """A list of words: each `[]` or letters in parentheses."""
     parts = re.findall(r'\(([^)]*)\)|\[\]', re.sub(r'∷ \[\]\s*$', '', text))
     return [[letter(w) for w in part.split() if w not in ('∷', '[]')] for part in parts]
+
+
+def settled_pairs():
+    """The pairs of crates/order/specs/Settled.antt: each with its word, stem and exchanged stem, or with None where no word shows it."""
+    text = read(os.path.join(SPECS, '..', '..', 'order', 'specs', 'Settled.antt'))
+    for m in re.finditer(r'^    (?:∷ )?(shown|unshown) (\w+ \d)(.*)$', text, re.M):
+        words = [[int(h, 16) for h in re.findall(r'0x([0-9A-F]+)', w)] for w in re.findall(r'\(([^)]*)\)', m.group(3))]
+        yield m.group(2), words if m.group(1) == 'shown' else None
