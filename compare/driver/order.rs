@@ -1,6 +1,6 @@
 // order stems: for words on standard input, each a line of hexadecimal code points, the stem, and the other stem of every exchange that changes it.
-// order search SEED WORDS SHOW: for every pair of neighbouring steps the smallest words whose stem differs when they are exchanged, and the rows never
-// taken; compare/order builds and starts it. WORDS is the number of random words, SHOW the number of words listed for each pair.
+// order search SEED WORDS: for every pair of neighbouring steps a smallest word whose stem differs when they are exchanged, and the rows never
+// taken; compare/order builds and starts it. WORDS is the number of random words.
 // The model works on letters and follows crates/order/specs/Order.antt. tables.rs comes from the Rust source.
 
 use std::io::{self, BufRead, Write};
@@ -416,39 +416,23 @@ impl Random {
 /// A word with its stem and the stem of a model that differs from it.
 type Shown = (Vec<u32>, Vec<u32>, Vec<u32>);
 
-/// What is known of a model: the first differing word, the number of all words tried that have fewer letters, and differing words of its length and of one more letter.
+/// What is known of a model: the first differing word, and how many words of fewer letters were tried.
 struct Search {
     model: Model,
     shown: Option<Shown>,
     tried: u64,
-    /// How many differ, and a random choice of them: for the length of the shown word, and for one more letter.
-    found: [(u64, Vec<Shown>); 2],
 }
 
 impl Search {
     fn new(model: Model) -> Search {
-        Search { model, shown: None, tried: 0, found: [(0, Vec::new()), (0, Vec::new())] }
+        Search { model, shown: None, tried: 0 }
     }
 
-    fn length(&self) -> Option<usize> {
-        self.shown.as_ref().map(|shown| shown.0.len())
-    }
-
-    /// Tries a word whose stem stands in `base`. Leaving out a row that no step found changes nothing.
-    fn compare(&mut self, base: &Model, word: &[u32], show: usize, random: &mut Random) {
-        let step = self.model.step;
-        if step != NO_STEP && (self.shown.is_some() || base.found[step] >> self.model.row & 1 == 0) || same(self.model.stem(word), base.text()) {
-            return;
+    /// Tries a word, where none was found yet.
+    fn try_word(&mut self, word: &[u32], stem: &[u32]) {
+        if self.shown.is_none() && !same(self.model.stem(word), stem) {
+            self.shown = Some((word.to_vec(), stem.to_vec(), self.model.stem(word).to_vec()));
         }
-        let shown = (word.to_vec(), base.text().to_vec(), self.model.text().to_vec());
-        let found = &mut self.found[(self.length().map_or(0, |n| word.len() - n)).min(1)];
-        found.0 += 1;
-        if found.1.len() < show {
-            found.1.push(shown.clone());
-        } else if show > 0 && random.below(found.0 as usize) < show {
-            found.1[random.below(show)] = shown.clone();
-        }
-        self.shown.get_or_insert(shown);
     }
 
     fn line(&self, longest: &str) -> String {
@@ -461,18 +445,18 @@ impl Search {
     }
 }
 
-/// Goes through all words of up to `longest` of the letters, the short ones first, for each search until its smallest words are found.
-fn all_words(base: &mut Model, searches: &mut [Search], letters: &[u32], longest: usize, show: usize, random: &mut Random) -> u64 {
+/// Goes through all words of up to `longest` of the letters, the short ones first, and tries each where no word was found yet.
+fn all_words(base: &mut Model, searches: &mut [Search], letters: &[u32], longest: usize) -> u64 {
     let mut total = 0;
     for length in 0..longest + 1 {
-        let mut open: Vec<&mut Search> = searches.iter_mut().filter(|s| s.length().map_or(true, |n| show > 0 && s.model.step == NO_STEP && length == n + 1)).collect();
+        let mut open: Vec<&mut Search> = searches.iter_mut().filter(|s| s.shown.is_none()).collect();
         let count = (letters.len() as u64).pow(length as u32);
         let mut digits = vec![0; length];
         let mut word = vec![letters[0]; length];
         for _ in 0..count {
-            base.stem(&word);
+            let stem = base.stem(&word);
             for search in open.iter_mut() {
-                search.compare(base, &word, show, random);
+                search.try_word(&word, stem);
             }
             for i in (0..length).rev() {
                 digits[i] = (digits[i] + 1) % letters.len();
@@ -491,17 +475,17 @@ fn all_words(base: &mut Model, searches: &mut [Search], letters: &[u32], longest
     total
 }
 
-/// Tries a word for the searches that have none yet.
-fn try_word(base: &mut Model, searches: &mut [Search], word: &[u32], random: &mut Random) {
-    base.stem(word);
+/// Tries a word beyond those.
+fn one_word(base: &mut Model, searches: &mut [Search], word: &[u32]) {
+    let stem = base.stem(word);
     for search in searches.iter_mut().filter(|s| s.shown.is_none()) {
         search.tried += 1;
-        search.compare(base, word, 0, random);
+        search.try_word(word, stem);
     }
 }
 
 /// The words of up to 6 letters that begin with a row of A_3, of the other kind: with a presentation form in front they are open, with marks behind they are defined.
-fn turned_words(base: &mut Model, searches: &mut [Search], random: &mut Random) -> u64 {
+fn turned_words(base: &mut Model, searches: &mut [Search]) -> u64 {
     let mut total = 0;
     for row in CHECKS1.rows {
         for length in 0..LONGEST + 1 - row.letters.len() {
@@ -517,8 +501,8 @@ fn turned_words(base: &mut Model, searches: &mut [Search], random: &mut Random) 
                 let (mut open, mut defined) = (word.clone(), word);
                 open[0] = form;
                 defined.extend([mark; 3]);
-                try_word(base, searches, &open, random);
-                try_word(base, searches, &defined, random);
+                one_word(base, searches, &open);
+                one_word(base, searches, &defined);
                 total += 2;
             }
         }
@@ -526,25 +510,22 @@ fn turned_words(base: &mut Model, searches: &mut [Search], random: &mut Random) 
     total
 }
 
-fn search(seed: u64, words: u64, show: usize) {
+fn search(seed: u64, words: u64) {
     let mut random = Random((seed ^ 0x9E3779B97F4A7C15).wrapping_mul(0xBF58476D1CE4E5B9) | 1);
     let keys = keys();
     let mut base = Model::new(keys, NOWHERE, 0, NO_STEP, 0);
     let mut searches: Vec<Search> = pairs(keys).into_iter().chain(shortened(keys)).map(Search::new).collect();
     let pairs = searches.iter().filter(|s| s.model.step == NO_STEP).count();
-    let mut total = all_words(&mut base, &mut searches[..2], ALL_LETTERS, 3, show, &mut random);
-    total += all_words(&mut base, &mut searches[2..], TABLE_LETTERS, LONGEST, show, &mut random);
+    let mut total = all_words(&mut base, &mut searches[..2], ALL_LETTERS, 3);
+    total += all_words(&mut base, &mut searches[2..], TABLE_LETTERS, LONGEST);
     let whole: Vec<bool> = searches.iter().map(|s| s.shown.is_some()).collect();
-    total += turned_words(&mut base, &mut searches, &mut random) + words;
+    total += turned_words(&mut base, &mut searches) + words;
     for _ in 0..words {
         let word = random.word();
-        try_word(&mut base, &mut searches, &word, &mut random);
+        one_word(&mut base, &mut searches, &word);
     }
     for (search, whole) in searches[..pairs].iter().zip(&whole) {
         println!("{}", search.line(if *whole { "shorter word" } else { "word before it" }));
-        for (word, stem, other) in search.found.iter().flat_map(|found| found.1.iter()) {
-            println!("    {}\t{}\t{}", hex(word), hex(stem), hex(other));
-        }
     }
     for (kind, name) in ["open", "defined"].iter().enumerate() {
         for step in &STEPS[1 - kind..STEPS.len() - 1] {
@@ -588,6 +569,6 @@ fn main() {
     let number = |i: usize| arguments[i].parse::<u64>().expect("a number");
     match arguments[0].as_str() {
         "stems" => stems(),
-        _ => search(number(1), number(2), number(3) as usize),
+        _ => search(number(1), number(2)),
     }
 }
