@@ -30,7 +30,7 @@ pub data Place : Type 0 where
   step1bTurns step1bSequel : Place
   -- Step1, Step2, and what follows; the first of: Step3a_Noun, Step3b_Noun, the verb's fronts; Step3_Verb and Step4_Verb
   fronts thirds verbFronts : Place
-  -- the last letter, the other letters
+  -- the last letter, all letters
   finishing : Place
   -- no step stands here
   nowhere : Place
