@@ -17,7 +17,8 @@ use Rattle.definition.specs.Finish.{last, other, finish}
 use Rattle.definition.specs.Fronts.{Applied, prefixStep4Verb}
 use Rattle.definition.specs.Demand3.{isApplied, place, Change, last-hamza, other-alef, other-waw, other-yeh, last-yeh, fourth-alef, stays}
 use Rattle.definition.proofs.Match.{both-0, both-1, by}
-use Rattle.definition.proofs.Fronting.{Verbal, Fourth, fourth}
+use Rattle.definition.proofs.FrontRows.{Verbal}
+use Rattle.definition.proofs.Fronting.{Fourth, fourth}
 use Rattle.definition.proofs.Lengths.{maqsura-if-length, fourth-length}
 
 -- ---- item 3's change of the last letter
