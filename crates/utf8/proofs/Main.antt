@@ -6,7 +6,7 @@ use mathlib.Core.Option.{some}
 use Prim.Native.Nat.{ℕ}
 use Rattle.definition.specs.Words.{Word, beginsWith, endsWith}
 use Rattle.utf8.specs.Utf8.{Scalars, encode, decode, wellFormed}
-use Rattle.utf8.proofs.Utf8.{decode-encode}
+use Rattle.utf8.proofs.Encoding.{decode-encode}
 use Rattle.utf8.proofs.Text.{sound, well-formed-text, text-well-formed, encode-injective}
 use Rattle.utf8.proofs.Matches.{front-bytes, end-bytes}
 

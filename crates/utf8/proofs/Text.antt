@@ -9,7 +9,8 @@ use native.Mathlib.Omega.{arith}
 use lib.ListN.{length, length-append}
 use Rattle.definition.proofs.Match.{by-le}
 use Rattle.utf8.specs.Utf8.{Scalars, encode1, encode, run, decode, isSome, wellFormed}
-use Rattle.utf8.proofs.Utf8.{encode1-1, encode1-2, encode1-3, encode1-4, decode-append, decode-encode, Head, head, append?-inv}
+use Rattle.utf8.proofs.Encoding.{encode1-1, encode1-2, encode1-3, encode1-4, decode-append, decode-encode}
+use Rattle.utf8.proofs.Decoding.{Head, head, append?-inv}
 
 -- ---- the bytes of one character: a lead byte, and then continuation bytes
 
