@@ -9,16 +9,15 @@ use lib.Dec.{leb, eqb}
 use lib.ListN.{length, drop, getD}
 use borrow.Author.Tests.{leb-true, eqb-true}
 use Rattle.definition.specs.Letters.{alef, teh, noon, yeh}
-use Rattle.definition.specs.Words.{Word, pick, both, same}
+use Rattle.definition.specs.Words.{Word, both, same}
 use Rattle.definition.specs.Tables.{Row, «A_4», «A_5», «A_6», «A_7», «A_8», «A_9»}
 use Rattle.definition.specs.Search.{rowAt, guard}
-use Rattle.definition.specs.Fronts.{PrefixStep, prefixStep1, prefixStep2, prefixStep3aNoun, prefixStep3bNoun, prefixStep3Verb, prefixStep4Verb, prefix, replacements, frontRow, replacement}
-use Rattle.definition.specs.Demand3.{at}
-use Rattle.definition.proofs.Match.{both-0, both-1, by, same-eq}
+use Rattle.definition.specs.Fronts.{PrefixStep, prefixStep1, prefixStep2, prefixStep3aNoun, prefixStep3bNoun, prefixStep3Verb, prefixStep4Verb, prefix, replacements, at, frontRow, replacement}
+use Rattle.definition.proofs.Match.{both-0, both-1, either, by, same-eq}
 use Rattle.definition.proofs.Found.{all, all-at}
 
 -- ---- a test of a step's rows: the replacement is the row's end, at most so many letters go, and three letters stay
-abbrev replacedBy : PrefixStep → Row → Word
+abbrev pub replacedBy : PrefixStep → Row → Word
 replacedBy s k = getD (replacements s) (k .class - 1) []
 
 abbrev passFits : ℕ → PrefixStep → Row → Bool
@@ -86,14 +85,7 @@ unfolding replacement
 new-length n s p r h =
     eqb-true (length (replacedBy s (rowAt (prefix s .table) r))) n (all-at (λ (k : Row). eqb (length (replacedBy s k)) n) (prefix s .table) p r h)
 
-pub empty : (w : Word) → length w ≡ 0 → w ≡ []
-empty [] e = refl
-empty (c ∷ w) e = absurd (omega arith)
-
 -- ---- the rows of Step1: two letters, guard 4, and the replacement is one of the two
-abbrev either : Bool → Bool → Bool
-either a b = pick a true b
-
 abbrev headFits : Row → Bool
 headFits k =
     both (eqb (length (k .letters)) 2)

@@ -13,12 +13,12 @@ use Rattle.definition.specs.Tables.{«A_4»}
 use Rattle.definition.specs.Search.{rowAt, guard, taken}
 use Rattle.definition.specs.Tries.{_thenTry_, firstOf, attempt}
 use Rattle.definition.specs.Kind.{Kind, ifOpen}
-use Rattle.definition.specs.Fronts.{PrefixStep, prefixStep1, prefixStep2, prefixStep3aNoun, prefixStep3bNoun, prefixStep3Verb, prefixStep4Verb, prefix, notAt, Applied, frontRow, replacement, Fronting, text, passing, change, beginsWithAny, applyBy, applyUnless, apply, prefixSteps, started, fronts}
-use Rattle.definition.specs.Demand3.{at, unreplaced, toFront, frontOf, AtMostOne, unused, once, HeadOf, noHead, oneHead, Third, third-a, third-b, third-verb, InOrder, isApplied, place}
-use Rattle.definition.proofs.Match.{begins-split}
+use Rattle.definition.specs.Fronts.{PrefixStep, prefixStep1, prefixStep2, prefixStep3aNoun, prefixStep3bNoun, prefixStep3Verb, prefixStep4Verb, prefix, notAt, Applied, at, frontRow, replacement, unreplaced, Fronting, text, passing, change, beginsWithAny, applyBy, applyUnless, apply, prefixSteps, started, fronts}
+use Rattle.definition.specs.Demand3.{toFront, frontOf, AtMostOne, unused, once, HeadOf, noHead, oneHead, Third, third-a, third-b, third-verb, InOrder, isApplied, place}
+use Rattle.definition.proofs.Match.{empty, begins-split}
 use Rattle.definition.proofs.Found.{Taken, taken-some}
 use Rattle.definition.proofs.Triples.{Ends, Does, ends-after, does-then, does-or, does-last, does-attempt, does-if}
-use Rattle.definition.proofs.FrontRows.{PassRows, pass-2, pass-3a, pass-3b, pass-3v, passes, new-2, new-3v, new-length, empty, heads, Verbal, fours}
+use Rattle.definition.proofs.FrontRows.{PassRows, pass-2, pass-3a, pass-3b, pass-3v, passes, new-2, new-3v, new-length, heads, Verbal, fours}
 
 -- ---- the head letter stays the same letter where the front grows
 pub head-in : (n front x head : Word) {ms : List Applied} → n ≡ front ++ x → HeadOf front front head ms → HeadOf n front head ms

@@ -1,6 +1,6 @@
 -- No letter of a normalised word is a key of A_0, and no letter of a stem is one or one of 0622 to 0626. Assumes nothing.
 use mathlib.Core.Path.{_≡_, refl, sym, ap, _∙_, subst}
-use mathlib.Core.Bool.{Bool, true, false, false≢true, not}
+use mathlib.Core.Bool.{Bool, true, false≢true, not}
 use mathlib.Core.Logic.{inl, inr}
 use mathlib.Core.List.{List, [], _∷_, _++_}
 use Prim.Native.Nat.{ℕ, zero, suc, _+_, _≤_, _<_}

@@ -1,6 +1,6 @@
 -- The search's answer is the only row that matches and is longest, in every table whose rows differ; all 22 are such tables. Assumes nothing.
 use mathlib.Core.Path.{_≡_, refl, sym, ap, _∙_}
-use mathlib.Core.Bool.{Bool, true, false, false≢true, not}
+use mathlib.Core.Bool.{Bool, true, false≢true, not}
 use mathlib.Core.Logic.{inl, inr}
 use mathlib.Core.List.{List, [], _∷_}
 use Prim.Native.Nat.{ℕ, zero, suc, _-_, _≤_, _<_}
