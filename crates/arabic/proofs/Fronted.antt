@@ -9,13 +9,13 @@ use lib.Dec.{leb, eqb}
 use lib.ListN.{length, take, drop, getD, length-append, length-take}
 use lib.Seq.{drop-append-add, drop-append-seam, take-append-seam}
 use borrow.Author.Tests.{leb-true, eqb-true}
-use Rattle.definition.specs.Words.{Word, pick, both, beginsWith}
+use Rattle.definition.specs.Words.{Word, pick, both, all, beginsWith}
 use Rattle.definition.specs.Tables.{Row, «A_4», «A_5», «A_6», «A_7», «A_8», «A_9»}
 use Rattle.definition.specs.Search.{rowAt, guard, taken}
 use Rattle.definition.specs.Tries.{failed}
 use Rattle.definition.specs.Fronts.{PrefixStep, prefixStep1, prefixStep2, prefixStep3aNoun, prefixStep3bNoun, prefixStep3Verb, prefixStep4Verb, prefix, replacements, notAt, Applied, frontRow, replacement, Fronting, text, passing, headed, change, beginsWithAny, applyBy, applyUnless, apply, started}
 use Rattle.definition.proofs.Match.{by, by-le, both-0, both-1, begins-split}
-use Rattle.definition.proofs.Found.{taken-some, all, all-at}
+use Rattle.definition.proofs.Found.{taken-some, all-at}
 use Rattle.definition.proofs.FrontRows.{replacedBy}
 use Rattle.utf8.specs.Utf8.{Scalars, encode, encode1}
 use Rattle.utf8.specs.Places.{size, At}

@@ -10,11 +10,11 @@ use lib.Dec.{leb, ltb}
 use lib.ListN.{length, take, drop, length-drop}
 use lib.Seq.{drop-drop}
 use borrow.Author.Tests.{leb-true, leb-false, le-leb, ltb-true}
-use Rattle.definition.specs.Words.{Word, pick, both, same, endsWith}
+use Rattle.definition.specs.Words.{Word, pick, both, all, same, endsWith}
 use Rattle.definition.specs.Tables.{Row}
 use Rattle.definition.specs.Search.{rowAt, longest, Rule, guard, met, taken}
 use Rattle.definition.proofs.Match.{both-0, both-1, either, either-right, either-not, by, same-eq, same-refl, ends-split, ends-of}
-use Rattle.definition.proofs.Found.{Found, all, all-at, longest-found, longest-longest, no-letters}
+use Rattle.definition.proofs.Found.{Found, all-at, longest-found, longest-longest, no-letters}
 
 ends-ends : (w key k : Word) → endsWith w key ≡ true → endsWith key k ≡ true → endsWith w k ≡ true
 ends-ends w key k p q =

@@ -9,12 +9,12 @@ use lib.Dec.{leb, eqb}
 use lib.ListN.{length, drop, getD}
 use borrow.Author.Tests.{leb-true, eqb-true}
 use Rattle.definition.specs.Letters.{alef, teh, noon, yeh}
-use Rattle.definition.specs.Words.{Word, both, same}
+use Rattle.definition.specs.Words.{Word, both, all, same}
 use Rattle.definition.specs.Tables.{Row, «A_4», «A_5», «A_6», «A_7», «A_8», «A_9»}
 use Rattle.definition.specs.Search.{rowAt, guard}
 use Rattle.definition.specs.Fronts.{PrefixStep, prefixStep1, prefixStep2, prefixStep3aNoun, prefixStep3bNoun, prefixStep3Verb, prefixStep4Verb, prefix, replacements, at, frontRow, replacement}
 use Rattle.definition.proofs.Match.{both-0, both-1, either, by, same-eq}
-use Rattle.definition.proofs.Found.{all, all-at}
+use Rattle.definition.proofs.Found.{all-at}
 
 -- ---- a test of a step's rows: the replacement is the row's end, at most so many letters go, and three letters stay
 abbrev pub replacedBy : PrefixStep → Row → Word

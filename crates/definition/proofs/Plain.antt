@@ -9,14 +9,14 @@ use lib.Dec.{leb}
 use lib.ListN.{length, take, getD, length-append}
 use borrow.Author.Tests.{leb-true, not-true}
 use Rattle.definition.specs.Letters.{hamza, alef, waw, yeh}
-use Rattle.definition.specs.Words.{Word, both, same, beginsWith}
+use Rattle.definition.specs.Words.{Word, both, all, same, beginsWith}
 use Rattle.definition.specs.Tables.{Row, «A_0», «A_4»}
 use Rattle.definition.specs.Search.{rowAt, longest}
 use Rattle.definition.specs.Normal.{gives, listedFor, given, normal, normalise}
 use Rattle.definition.specs.Fronts.{Applied}
 use Rattle.definition.specs.Demand3.{HeadOf, noHead, oneHead, Change, last-hamza, other-alef, other-waw, other-yeh, last-yeh, fourth-alef, stays, Plain, AllOf}
 use Rattle.definition.proofs.Match.{both-0, both-1, same-refl}
-use Rattle.definition.proofs.Found.{Found, all, all-at, longest-found, longest-longest, row-behind, no-letters}
+use Rattle.definition.proofs.Found.{Found, all-at, longest-found, longest-longest, row-behind, no-letters}
 use Rattle.definition.proofs.Changed.{Outside}
 
 -- ---- all letters of a word

@@ -8,11 +8,11 @@ use native.Mathlib.Omega.{arith}
 use lib.Dec.{leb}
 use lib.ListN.{length, take, drop}
 use borrow.Author.Tests.{leb-true, le-leb, lt-leb, not-true}
-use Rattle.definition.specs.Words.{Word, pick, both, same, beginsWith, endsWith}
+use Rattle.definition.specs.Words.{Word, pick, both, all, same, beginsWith, endsWith}
 use Rattle.definition.specs.Tables.{Row, Table, «A_0», «A_1», «A_2», «A_3», «A_4», «A_5», «A_6», «A_7», «A_8», «A_9», «A_10», «A_11», «A_12», «A_13», «A_14», «A_15», «A_16», «A_17», «A_18», «A_19», «A_20», «A_21»}
 use Rattle.definition.specs.Search.{rowAt, longer, longest}
 use Rattle.definition.proofs.Match.{both-0, both-1, by, same-eq, same-refl}
-use Rattle.definition.proofs.Found.{Found, Longest, all, all-at, longest-found, longest-longest, no-letters}
+use Rattle.definition.proofs.Found.{Found, Longest, all-at, longest-found, longest-longest, no-letters}
 
 -- every row has a letter, and no two rows are the same
 abbrev pub distinct : Table → Bool

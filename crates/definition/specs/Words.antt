@@ -16,6 +16,10 @@ abbrev pub both : Bool → Bool → Bool
 both true b = b
 both false b = false
 
+abbrev pub all {ℓ} : {A : Type ℓ} → (A → Bool) → List A → Bool
+all p [] = true
+all p (x ∷ xs) = both (p x) (all p xs)
+
 unfoldable pub same : Word → Word → Bool
 same [] [] = true
 same [] (y ∷ ys) = false
