@@ -103,10 +103,6 @@ allTables =
     «A_0» ∷ «A_1» ∷ «A_2» ∷ «A_3» ∷ «A_4» ∷ «A_5» ∷ «A_6» ∷ «A_7» ∷ «A_8» ∷ «A_9» ∷ «A_10»
     ∷ «A_11» ∷ «A_12» ∷ «A_13» ∷ «A_14» ∷ «A_15» ∷ «A_16» ∷ «A_17» ∷ «A_18» ∷ «A_19» ∷ «A_20» ∷ «A_21» ∷ []
 
-abbrev allDistinct : List Table → Bool
-allDistinct [] = true
-allDistinct (t ∷ ts) = both (distinct t) (allDistinct ts)
-
-pub distinct-all : allDistinct allTables ≡ true
+pub distinct-all : all distinct allTables ≡ true
 unfolding «A_0» «A_1» «A_2» «A_3» «A_4» «A_5» «A_6» «A_7» «A_8» «A_9» «A_10» «A_11» «A_12» «A_13» «A_14» «A_15» «A_16» «A_17» «A_18» «A_19» «A_20» «A_21» same
 distinct-all = refl

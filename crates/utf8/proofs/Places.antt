@@ -52,12 +52,6 @@ pub size-strict : (cs : List ℕ) (m n : ℕ) → m < n → n ≤ length cs → 
 size-strict cs m n h k =
     omega (arith, size-next cs m (omega arith), encode1-pos (getD cs m 0), size-mono cs (m + 1) n (omega arith))
 
-pub place-unique : (cs : List ℕ) (m n i : ℕ) → At cs m i → At cs n i → m ≡ n
-place-unique cs m n i p q =
-    by-le m n
-    (λ h. by-le n m (λ g. omega arith) (λ g. absurd (omega (arith, size-strict cs m n g (q .0), p .1, q .1))))
-    (λ h. absurd (omega (arith, size-strict cs n m h (p .0), p .1, q .1)))
-
 -- ---- where characters start
 
 starts-lead : (b : ℕ) → Lead b → starts b ≡ true
@@ -161,11 +155,7 @@ leads-encode (c ∷ cs) =
     let one : leads (encode1 c) ≡ 1 = ap leads (s .is) ∙ rw (starts-lead (s .b) (s .lead)) (ap suc (conts-none (s .t) (s .conts))) in
     leads-append (encode1 c) (encode cs) ∙ omega (arith, one, leads-encode cs)
 
--- place 0 is byte 0, and only it
-pub zero-place : (cs : List ℕ) (n i : ℕ) → At cs n i → i ≡ 0 → n ≡ 0
-unfolding encode
-zero-place cs n i p z = place-unique cs n 0 0 (p .0, sym z ∙ p .1) (omega arith, refl)
-
+-- the first letter starts at byte 0
 pub zero-byte : (cs : List ℕ) (n i : ℕ) → At cs n i → n ≡ 0 → i ≡ 0
 unfolding encode
 zero-byte cs n i p z = p .1 ∙ ap (λ (k : ℕ). size (take k cs)) z
