@@ -9,7 +9,7 @@ use native.Mathlib.Omega.{arith}
 use lib.Dec.{leb}
 use lib.ListN.{length}
 use borrow.Author.Tests.{leb-true, leb-false}
-use Rattle.definition.specs.Words.{Word, pick, both, all}
+use Rattle.definition.specs.Words.{Word, pick, all}
 use Rattle.definition.specs.Tables.{Row, Table}
 use Rattle.definition.specs.Search.{rowAt, longer, longest, Rule, guard, met, taken}
 use Rattle.definition.proofs.Match.{both-0, both-1}
