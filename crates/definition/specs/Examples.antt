@@ -1,4 +1,4 @@
--- Words and what the definition gives for them: document 01's twelve, and worked examples for every step.
+-- Words and what the definition gives for them: document 01's twelve, and worked examples for every step that changes a word.
 use Prim.Native.Nat.{ℕ}
 use mathlib.Core.List.{List, [], _∷_}
 use Rattle.definition.specs.Letters.{hamza, alefHamzaAbove, wawHamza, alef, beh, tehMarbuta, teh, jeem, hah, khah, dal, reh, seen, kaf, lam, meem, noon, heh, waw, alefMaksura, yeh}

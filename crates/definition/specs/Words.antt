@@ -1,4 +1,4 @@
--- A word is a list of letters, and a letter is a Unicode scalar value. What stands at the front and at the end of a word.
+-- A word is a list of letters, each a number. What stands at the front and at the end of a word.
 use Prim.Native.Nat.{ℕ, _-_}
 use mathlib.Core.Bool.{Bool, true, false}
 use mathlib.Core.List.{List, [], _∷_}

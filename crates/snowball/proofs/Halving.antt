@@ -28,7 +28,7 @@ abbrev pub left : Bool → ℕ
 left true = 0
 left false = 1
 
--- THE INVARIANT at the loop's head
+-- the invariant at the loop's head
 pub record Half (us : List (List ℕ)) (s : List ℕ) (i j ci cj : ℕ) (f : Bool) : Type 0 where
   pub apart : i < j
   pub inside : j ≤ length us
@@ -134,7 +134,7 @@ recast {us} {s} {d} {i} {j} {ci} {cj} {i′} {j′} {ci′} {cj′} {f} a b p q 
     (subst (λ (n : ℕ). Cut us s d i′ j′ n cj f) (sym p)
     (subst (λ (n : ℕ). Cut us s d i′ j′ ci′ n f) (sym q) C)))
 
--- ONE TURN OF THE LOOP, at row k in the middle
+-- one turn of the loop, at row k in the middle
 module _ {us : List (List ℕ)} {ns s : List ℕ} (R : Rows us ns) {i j ci cj : ℕ} {f : Bool} (H : Half us s i j ci cj f) where
   abbrev pub middle : ℕ
   middle = i + (j - i) / 2

@@ -179,7 +179,7 @@ true-begins (x ∷ u) (y ∷ s) h =
     let e : (x ≡ y) × (length u ≤ lcp u s) = lcp-suc (length u) x y u s h in
     ap (λ (b : Bool). both b (begins u s)) (eq-eqb x y (e .0)) ∙ true-begins u s (e .1)
 
--- WHAT A COMPARISON FINDS at q, where q bytes are the same
+-- what a comparison finds at q, where q bytes are the same
 module _ (q : ℕ) (u s : List ℕ) (h : q ≤ lcp u s) where
   pub all-the-row : q ≡ length u → (lcp u s ≡ q) × (before s u ≡ false)
   all-the-row e = (let l : lcp u s ≤ length u = lcp-left u s in omega arith, ⊎-elim (λ t. absurd (not-begin s u t (omega arith))) (λ t. t) (bool-case (before s u)))

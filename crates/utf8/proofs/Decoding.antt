@@ -39,7 +39,7 @@ run-more-inv k a lo hi (b ∷ r) cs e =
     (λ u. absurd (Option·none-ne-some cs (rw (t, u) at e))))
     (λ t. absurd (Option·none-ne-some cs (rw t at e)))
 
--- the first character of bytes that decode
+-- the first letter of bytes that decode
 pub record Head (bs cs : List ℕ) : Type 0 where
   pub c : ℕ
   pub r : List ℕ

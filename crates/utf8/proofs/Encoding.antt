@@ -98,7 +98,7 @@ run-more k a lo hi b v bs h l e = rw (step-in k a lo hi b h l, e)
 abbrev pub cons? : ℕ → Option (List ℕ) → Option (List ℕ)
 cons? c r = Option·map (λ (cs : List ℕ). c ∷ cs) r
 
--- a character's encoding decodes to it
+-- a letter's encoding decodes to it
 pub run-1 : (c : ℕ) (bs : List ℕ) → c ≤ 0x7F → decode (c ∷ bs) ≡ cons? c (decode bs)
 unfolding onto
 run-1 c bs h = run-first c (whole c) bs (first-1 c h) ∙ ap (cons? c) (run-whole c 0 bs)
@@ -175,7 +175,7 @@ decode-append (c ∷ cs) bs s =
     ∙ ap (cons? c) (decode-append cs bs (s .1))
     ∙ cons-append c cs (decode bs)
 
--- the characters of an encoded text
+-- the letters of an encoded text
 pub decode-encode : (cs : List ℕ) → Scalars cs → decode (encode cs) ≡ some cs
 unfolding run
 decode-encode cs s =

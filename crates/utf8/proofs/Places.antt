@@ -34,7 +34,7 @@ size-append u v = ap length (encode-append u v) ∙ length-append (encode u) (en
 pub size-one : (c : ℕ) → size (c ∷ []) ≡ length (encode1 c)
 size-one c = ap length (encode-one c)
 
--- the place behind the character at n
+-- the place behind the letter at n
 pub size-next : (cs : List ℕ) (n : ℕ) → n < length cs → size (take (n + 1) cs) ≡ size (take n cs) + length (encode1 (getD cs n 0))
 size-next cs n h =
     ap size (ap (λ (k : ℕ). take k cs) (add-one n) ∙ take-suc cs n 0 h)
@@ -52,7 +52,7 @@ pub size-strict : (cs : List ℕ) (m n : ℕ) → m < n → n ≤ length cs → 
 size-strict cs m n h k =
     omega (arith, size-next cs m (omega arith), encode1-pos (getD cs m 0), size-mono cs (m + 1) n (omega arith))
 
--- ---- where characters start
+-- ---- where letters start
 
 starts-lead : (b : ℕ) → Lead b → starts b ≡ true
 starts-lead b l =
@@ -75,7 +75,7 @@ module _ (cs : List ℕ) (n : ℕ) (h : n < length cs) where
       ∙ ap (λ (x : List ℕ). encode (take n cs) ++ encode x) (drop-cons cs n 0 h)
       ∙ sym (append-assoc (encode (take n cs)) (encode1 (getD cs n 0)) (encode (drop (suc n) cs)))
 
-  -- at each character's place one starts
+  -- at each letter's place one starts
   pub start-at : starts (getD (encode cs) (size (take n cs)) 0) ≡ true
   start-at =
       let s = shape (getD cs n 0) in
@@ -85,7 +85,7 @@ module _ (cs : List ℕ) (n : ℕ) (h : n < length cs) where
       ∙ ap starts (getD-append-seam (encode (take n cs)) (s .b) (s .t ++ encode (drop (suc n) cs)) 0)
       ∙ starts-lead (s .b) (s .lead)
 
-  -- and within a character none does
+  -- and within a letter none does
   pub no-start-at : (k : ℕ) → size (take n cs) < k → k < size (take (n + 1) cs) → starts (getD (encode cs) k 0) ≡ false
   no-start-at k p q =
       let s = shape (getD cs n 0) in
@@ -142,7 +142,7 @@ module _ (a cs : List ℕ) (len : ℕ) (e : take len a ≡ encode cs) (len-size 
             absurd (clash (f .there) (ap starts (same r m) ∙ no-start-at cs (n - 1) i r g (omega (arith, f .before, nx, size-next cs (n - 1) i))))),
       )
 
--- a text has as many characters as bytes that start one
+-- a text has as many letters as bytes that start one
 conts-none : (t : List ℕ) → Conts t → leads t ≡ 0
 conts-none [] c = refl
 conts-none (b ∷ t) c = rw (starts-cont b (c .0) (c .1)) (conts-none t (c .2))

@@ -1,4 +1,4 @@
--- Encoded texts: what decodes is one, a text is its bytes' only one, and where bytes match at a character's start, characters match. Assumes nothing.
+-- Encoded texts: what decodes is one, a text is its bytes' only one, and where bytes match at a letter's start, letters match. Assumes nothing.
 use mathlib.Core.Path.{_≡_, refl, sym, ap, _∙_, subst}
 use Prim.Native.Nat.{ℕ, zero, suc, _≤_, _<_}
 use mathlib.Core.Bool.{true}
@@ -12,7 +12,7 @@ use Rattle.utf8.specs.Utf8.{Scalars, encode1, encode, run, decode, isSom
 use Rattle.utf8.proofs.Encoding.{encode1-1, encode1-2, encode1-3, encode1-4, decode-append, decode-encode}
 use Rattle.utf8.proofs.Decoding.{Head, head, append?-inv}
 
--- ---- the bytes of one character: a lead byte, and then continuation bytes
+-- ---- the bytes of one letter: a lead byte, and then continuation bytes
 
 abbrev pub Lead : ℕ → Type 0
 Lead b = (b < 0x80) ⊎ (0xC0 ≤ b)
@@ -93,13 +93,13 @@ text-well-formed cs s = ap isSome (decode-encode cs s)
 pub encode-injective : (u v : List ℕ) → Scalars u → Scalars v → encode u ≡ encode v → u ≡ v
 encode-injective u v s t e = Option·some-injective u v (sym (decode-encode u s) ∙ ap decode e ∙ decode-encode v t)
 
--- ---- a match of bytes at the start of a text is one of characters
+-- ---- a match of bytes at the start of a text is one of letters
 pub match-front : (cs key r : List ℕ) → Scalars cs → Scalars key → encode cs ≡ encode key ++ r → (v : List ℕ) × (cs ≡ key ++ v) × (r ≡ encode v)
 match-front cs key r s k e =
     let w = append?-inv key (decode r) cs (sym (decode-append key r k) ∙ sym (ap decode e) ∙ decode-encode cs s) in
     (w .0, w .2, sound r (w .0) (w .1) .1)
 
--- ---- a cut before a lead byte is a cut between characters
+-- ---- a cut before a lead byte is a cut between letters
 
 abbrev pub StartsLead : List ℕ → Type 0
 StartsLead [] = Unit {0}
@@ -139,7 +139,7 @@ starts : (c : ℕ) (cs : List ℕ) → StartsLead (encode (c ∷ cs))
 unfolding encode
 starts c cs = rw (shape c .is) (shape c .lead)
 
--- a match of bytes at the end of a text is one of characters
+-- a match of bytes at the end of a text is one of letters
 pub match-back : (cs p : List ℕ) (k : ℕ) (key : List ℕ) → Scalars cs → Scalars (k ∷ key) → encode cs ≡ p ++ encode (k ∷ key) → (u : List ℕ) × (cs ≡ u ++ (k ∷ key)) × (p ≡ encode u)
 match-back cs p k key s t e =
     let w = cut cs p (encode (k ∷ key)) e (starts k key) in
