@@ -149,7 +149,7 @@ outside c e = by (leb alefMadda c)
     (λ t. inr (leb-false c yehHamza (sym (ap (λ (b : Bool). both b (leb c yehHamza)) t) ∙ e)))
     (λ t. inl (leb-false alefMadda c t))
 
-pub outside-five : (c : ℕ) → (c ≡ alefMadda → ⊥) → (c ≡ alefHamzaAbove → ⊥) → (c ≡ wawHamza → ⊥) → (c ≡ alefHamzaBelow → ⊥) → (c ≡ yehHamza → ⊥) → Outside c
+outside-five : (c : ℕ) → (c ≡ alefMadda → ⊥) → (c ≡ alefHamzaAbove → ⊥) → (c ≡ wawHamza → ⊥) → (c ≡ alefHamzaBelow → ⊥) → (c ≡ yehHamza → ⊥) → Outside c
 outside-five c a b d e f = by (leb alefMadda c)
     (λ t. let l = leb-true alefMadda c t in inr (omega arith))
     (λ t. inl (leb-false alefMadda c t))

@@ -40,7 +40,7 @@ abbrev pub compatible : Word → Word → Bool
 compatible key k = either (endsWith key k) (endsWith k key)
 
 -- each row of the rule that fits the key has a letter, a class and a guard of at most bound
-abbrev pub coverRow : Rule → Word → ℕ → Row → Bool
+abbrev coverRow : Rule → Word → ℕ → Row → Bool
 coverRow s key bound k =
     either (not (compatible key (k .letters))) (both (leb 1 (length (k .letters))) (both (leb 1 (k .class)) (leb (guard (s .guards) (k .class)) bound)))
 

@@ -101,7 +101,7 @@ module _ (s : SuffixStep) (r : ℕ) (h : r < length (suffix s .table)) where
   pub row-some : 1 ≤ length (rowAt (suffix s .table) r .letters)
   row-some = leb-true 1 (length (row .letters)) (both-0 (leb 1 (length (row .letters))) _ row-fits)
 
-  pub row-least : length (rowAt (suffix s .table) r .letters) + 2 ≤ guard (suffix s .guards) (rowAt (suffix s .table) r .class)
+  row-least : length (rowAt (suffix s .table) r .letters) + 2 ≤ guard (suffix s .guards) (rowAt (suffix s .table) r .class)
   row-least =
       leb-true (length (row .letters) + 2) (guard (suffix s .guards) (row .class)) (both-1 (leb 1 (length (row .letters))) _ row-fits)
 

@@ -69,7 +69,7 @@ pub no-letters : (t : Table) → length (rowAt t (length t) .letters) ≡ 0
 no-letters [] = refl
 no-letters (k ∷ t) = no-letters t
 
-pub met-guard : (least : List ℕ) (k n : ℕ) → met least k n ≡ true → guard least k ≤ n
+met-guard : (least : List ℕ) (k n : ℕ) → met least k n ≡ true → guard least k ≤ n
 unfolding met
 met-guard least zero n e = absurd (false≢true e)
 met-guard least (suc k) n e = leb-true (guard least (suc k)) n e

@@ -37,35 +37,35 @@ head-on : (front more head : Word) {ms : List Applied} → HeadOf front front he
 head-on front more head h = head-more (front ++ more) front more head (head-in (front ++ more) front more head refl h)
 
 -- ---- what holds on the way. At most g letters are gone.
-pub record Way (s : Word) (g : ℕ) (f : Fronting) : Type 0 where
-  pub whole : s ≡ f .front ++ (f .passed ++ f .rest)
-  pub enough : 3 * min 1 (length (f .front)) ≤ length (f .head) + (length (f .passed) + length (f .rest))
-  pub gone : length (f .front) ≤ length (f .head) + g
-  pub fronts : f .front ≡ frontOf (f .applied)
-  pub no4 : isApplied prefixStep4Verb (f .applied) ≡ false
+record Way (s : Word) (g : ℕ) (f : Fronting) : Type 0 where
+  whole : s ≡ f .front ++ (f .passed ++ f .rest)
+  enough : 3 * min 1 (length (f .front)) ≤ length (f .head) + (length (f .passed) + length (f .rest))
+  gone : length (f .front) ≤ length (f .head) + g
+  fronts : f .front ≡ frontOf (f .applied)
+  no4 : isApplied prefixStep4Verb (f .applied) ≡ false
 
 -- before Step3: nothing is passed yet
-pub record Early (s : Word) (g : ℕ) (f : Fronting) : Type 0 where
-  pub way : Way s g f
-  pub bare : f .passed ≡ []
-  pub no3 : isApplied prefixStep3Verb (f .applied) ≡ false
-  pub first : List Applied
-  pub second : List Applied
-  pub step1 : HeadOf (f .front) (f .front) (f .head) first
-  pub step2 : AtMostOne prefixStep2 second
-  pub all : f .applied ≡ second ++ first
+record Early (s : Word) (g : ℕ) (f : Fronting) : Type 0 where
+  way : Way s g f
+  bare : f .passed ≡ []
+  no3 : isApplied prefixStep3Verb (f .applied) ≡ false
+  first : List Applied
+  second : List Applied
+  step1 : HeadOf (f .front) (f .front) (f .head) first
+  step2 : AtMostOne prefixStep2 second
+  all : f .applied ≡ second ++ first
 
 -- after Step3_Verb: only what it replaced is passed
-pub record Late (s : Word) (g : ℕ) (f : Fronting) : Type 0 where
-  pub way : Way s g f
-  pub passed : length (f .passed) ≡ place (f .applied)
-  pub first : List Applied
-  pub second : List Applied
-  pub third : List Applied
-  pub step1 : HeadOf (f .front) (f .front) (f .head) first
-  pub step2 : AtMostOne prefixStep2 second
-  pub step3 : AtMostOne prefixStep3Verb third
-  pub all : f .applied ≡ third ++ (second ++ first)
+record Late (s : Word) (g : ℕ) (f : Fronting) : Type 0 where
+  way : Way s g f
+  passed : length (f .passed) ≡ place (f .applied)
+  first : List Applied
+  second : List Applied
+  third : List Applied
+  step1 : HeadOf (f .front) (f .front) (f .head) first
+  step2 : AtMostOne prefixStep2 second
+  step3 : AtMostOne prefixStep3Verb third
+  all : f .applied ≡ third ++ (second ++ first)
 
 -- Step4_Verb's letter of the run, with two letters behind it
 pub record Fourth (ms : List Applied) (run : Word) : Type 0 where
@@ -87,12 +87,12 @@ pub record Fronted (s : Word) (f : Fronting) : Type 0 where
   pub order : InOrder (f .front) (f .front) (f .head) (f .applied)
   pub four : isApplied prefixStep4Verb (f .applied) ≡ true → Fourth (f .applied) run
 
-pub text-length : (f : Fronting) → length (text f) ≡ length (f .head) + (length (f .passed) + length (f .rest))
+text-length : (f : Fronting) → length (text f) ≡ length (f .head) + (length (f .passed) + length (f .rest))
 text-length f = length-append (f .head) (f .passed ++ f .rest) ∙ ap (λ (n : ℕ). length (f .head) + n) (length-append (f .passed) (f .rest))
 
 -- ---- any step
 module _ (Q R : Fronting → Type 0) (st : PrefixStep) (f : Fronting) where
-  pub step-ends : R f → ((r : ℕ) → Taken (beginsWith (f .rest)) (prefix st) (length (text f)) r → Q (change st f (at st r))) → Ends Q R (apply st f)
+  step-ends : R f → ((r : ℕ) → Taken (beginsWith (f .rest)) (prefix st) (length (text f)) r → Q (change st f (at st r))) → Ends Q R (apply st f)
   unfolding apply
   step-ends n y = bar (beginsWithAny (f .rest) (notAt st))
     where

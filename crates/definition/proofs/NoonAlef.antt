@@ -22,7 +22,7 @@ use Rattle.definition.proofs.Step1a.{Idle}
 use Rattle.definition.proofs.Again.{shorter, again-ends}
 
 -- the row's number in A_18
-abbrev pub noonAlef : ℕ
+abbrev noonAlef : ℕ
 noonAlef = 8
 
 -- a cut by another row or another step

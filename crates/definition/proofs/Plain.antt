@@ -59,7 +59,7 @@ otherRow c k = not (same (k .letters) (c ∷ []))
 abbrev noKey : ℕ → Bool
 noKey c = all (otherRow c) «A_0»
 
-pub no-key : (c : ℕ) → noKey c ≡ true → NoKey c
+no-key : (c : ℕ) → noKey c ≡ true → NoKey c
 no-key c e r h q =
     let a = not-true (same (rowAt «A_0» r .letters) (c ∷ [])) (all-at (otherRow c) «A_0» e r h) in
     false≢true (sym a ∙ ap (λ (x : Word). same x (c ∷ [])) q ∙ same-refl (c ∷ []))

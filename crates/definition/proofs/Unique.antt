@@ -42,7 +42,7 @@ one-row (k ∷ t) d (suc r) (suc s) h g e =
     ap suc (one-row t (distinct-tail k t d) r s (omega arith) (omega arith) e)
 
 -- of two words that match, equally long, both are the same
-abbrev pub Rigid : (Word → Bool) → Type 0
+abbrev Rigid : (Word → Bool) → Type 0
 Rigid match = (a b : Word) → match a ≡ true → match b ≡ true → length a ≡ length b → a ≡ b
 
 pub rigid-front : (w : Word) → Rigid (beginsWith w)

@@ -13,10 +13,10 @@ use Rattle.utf8.specs.Utf8.{Scalar, Scalars, encode1, encode, State, who
 
 -- ---- tests
 
-pub pick-le : (b n p q x : ℕ) → (b ≡ n → p ≤ x) → q ≤ x → pick (eqb b n) p q ≤ x
+pick-le : (b n p q x : ℕ) → (b ≡ n → p ≤ x) → q ≤ x → pick (eqb b n) p q ≤ x
 pick-le b n p q x f h = by (eqb b n) (λ e. rw e (f (eqb-true b n e))) (λ e. rw e h)
 
-pub le-pick : (b n p q x : ℕ) → (b ≡ n → x ≤ p) → x ≤ q → x ≤ pick (eqb b n) p q
+le-pick : (b n p q x : ℕ) → (b ≡ n → x ≤ p) → x ≤ q → x ≤ pick (eqb b n) p q
 le-pick b n p q x f h = by (eqb b n) (λ e. rw e (f (eqb-true b n e))) (λ e. rw e h)
 
 -- ---- encode1, by the length of what it gives
@@ -77,7 +77,7 @@ first-over b h = rw (lt-leb b 0x7F (omega arith), lt-leb b 0xC1 (omega arith), l
 
 -- ---- a step and a run
 
-pub step-in : (k a lo hi b : ℕ) → lo ≤ b → b ≤ hi → step (more k a lo hi) b ≡ filled k (a * 64 + (b - 0x80))
+step-in : (k a lo hi b : ℕ) → lo ≤ b → b ≤ hi → step (more k a lo hi) b ≡ filled k (a * 64 + (b - 0x80))
 unfolding step
 step-in k a lo hi b h l = rw (le-leb lo b h, le-leb b hi l)
 
@@ -90,7 +90,7 @@ pub run-first : (b : ℕ) (s : State) (bs : List ℕ) → first b ≡ s → deco
 unfolding run step
 run-first b s bs e = rw e
 
-pub run-more : (k a lo hi b v : ℕ) (bs : List ℕ) → lo ≤ b → b ≤ hi → a * 64 + (b - 0x80) ≡ v
+run-more : (k a lo hi b v : ℕ) (bs : List ℕ) → lo ≤ b → b ≤ hi → a * 64 + (b - 0x80) ≡ v
     → run (more k a lo hi) (b ∷ bs) ≡ onto (filled k v) (run (filled k v) bs)
 unfolding run
 run-more k a lo hi b v bs h l e = rw (step-in k a lo hi b h l, e)
@@ -103,11 +103,11 @@ pub run-1 : (c : ℕ) (bs : List ℕ) → c ≤ 0x7F → decode (c ∷ bs) ≡ c
 unfolding onto
 run-1 c bs h = run-first c (whole c) bs (first-1 c h) ∙ ap (cons? c) (run-whole c 0 bs)
 
-pub run-last : (a lo hi b v : ℕ) (bs : List ℕ) → lo ≤ b → b ≤ hi → a * 64 + (b - 0x80) ≡ v → run (more 0 a lo hi) (b ∷ bs) ≡ cons? v (decode bs)
+run-last : (a lo hi b v : ℕ) (bs : List ℕ) → lo ≤ b → b ≤ hi → a * 64 + (b - 0x80) ≡ v → run (more 0 a lo hi) (b ∷ bs) ≡ cons? v (decode bs)
 unfolding onto filled
 run-last a lo hi b v bs h l e = run-more 0 a lo hi b v bs h l e ∙ ap (cons? v) (run-whole v 0 bs)
 
-pub run-next : (k a lo hi b v : ℕ) (bs : List ℕ) → lo ≤ b → b ≤ hi → a * 64 + (b - 0x80) ≡ v → run (more (suc k) a lo hi) (b ∷ bs) ≡ run (more k v 0x80 0xBF) bs
+run-next : (k a lo hi b v : ℕ) (bs : List ℕ) → lo ≤ b → b ≤ hi → a * 64 + (b - 0x80) ≡ v → run (more (suc k) a lo hi) (b ∷ bs) ≡ run (more k v 0x80 0xBF) bs
 unfolding onto filled
 run-next k a lo hi b v bs h l e = run-more (suc k) a lo hi b v bs h l e
 
@@ -146,7 +146,7 @@ module _ (c : ℕ) (bs : List ℕ) where
       ∙ run-next 0 (c / 4096) 0x80 0xBF (0x80 + c / 64 % 64) (c / 64) ((0x80 + c % 64) ∷ bs) (omega arith) (omega arith) (omega arith)
       ∙ run-last (c / 64) 0x80 0xBF (0x80 + c % 64) c bs (omega arith) (omega arith) (omega arith))
 
-  pub decode-encode1 : Scalar c → decode (encode1 c ++ bs) ≡ cons? c (decode bs)
+  decode-encode1 : Scalar c → decode (encode1 c ++ bs) ≡ cons? c (decode bs)
   decode-encode1 s =
       by-le c 0x7F (λ h. rw (encode1-1 c (omega arith)) (run-1 c bs h))
       (λ h. by-le c 0x7FF (λ k. enc-2 h (omega arith))

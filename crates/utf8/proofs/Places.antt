@@ -31,11 +31,11 @@ drop-size cs n =
 pub size-append : (u v : List ℕ) → size (u ++ v) ≡ size u + size v
 size-append u v = ap length (encode-append u v) ∙ length-append (encode u) (encode v)
 
-pub size-one : (c : ℕ) → size (c ∷ []) ≡ length (encode1 c)
+size-one : (c : ℕ) → size (c ∷ []) ≡ length (encode1 c)
 size-one c = ap length (encode-one c)
 
 -- the place behind the letter at n
-pub size-next : (cs : List ℕ) (n : ℕ) → n < length cs → size (take (n + 1) cs) ≡ size (take n cs) + length (encode1 (getD cs n 0))
+size-next : (cs : List ℕ) (n : ℕ) → n < length cs → size (take (n + 1) cs) ≡ size (take n cs) + length (encode1 (getD cs n 0))
 size-next cs n h =
     ap size (ap (λ (k : ℕ). take k cs) (add-one n) ∙ take-suc cs n 0 h)
     ∙ size-append (take n cs) (getD cs n 0 ∷ [])
@@ -86,7 +86,7 @@ module _ (cs : List ℕ) (n : ℕ) (h : n < length cs) where
       ∙ starts-lead (s .b) (s .lead)
 
   -- and within a letter none does
-  pub no-start-at : (k : ℕ) → size (take n cs) < k → k < size (take (n + 1) cs) → starts (getD (encode cs) k 0) ≡ false
+  no-start-at : (k : ℕ) → size (take n cs) < k → k < size (take (n + 1) cs) → starts (getD (encode cs) k 0) ≡ false
   no-start-at k p q =
       let s = shape (getD cs n 0) in
       let u = encode (take n cs) in

@@ -101,7 +101,7 @@ match-front cs key r s k e =
 
 -- ---- a cut before a lead byte is a cut between letters
 
-abbrev pub StartsLead : List ℕ → Type 0
+abbrev StartsLead : List ℕ → Type 0
 StartsLead [] = Unit {0}
 StartsLead (b ∷ bs) = Lead b
 
@@ -117,7 +117,7 @@ peel (y ∷ t) x (z ∷ p) q e c l =
     let z≡y : y ≡ z = head-eq-of-cons-eq e in
     (w .0, (λ i. sym z≡y i ∷ w .1 i), w .2)
 
-pub cut : (cs p q : List ℕ) → encode cs ≡ p ++ q → StartsLead q → (u : List ℕ) × (v : List ℕ) × (cs ≡ u ++ v) × (p ≡ encode u) × (q ≡ encode v)
+cut : (cs p q : List ℕ) → encode cs ≡ p ++ q → StartsLead q → (u : List ℕ) × (v : List ℕ) × (cs ≡ u ++ v) × (p ≡ encode u) × (q ≡ encode v)
 unfolding encode
 cut [] [] q e l = ([], [], refl, refl, sym e)
 cut [] (a ∷ p) q e l = absurd (nil≢cons e)
