@@ -11,6 +11,7 @@ use Rattle.utf8.specs.Utf8.{encode1, encode}
 use Rattle.utf8.proofs.Text.{encode1-pos, encode-injective}
 use Rattle.definition.specs.Words.{Word}
 use Rattle.definition.specs.Finish.{finish}
+use Rattle.definition.proofs.Match.{empty}
 use Rattle.snowball.specs.Search.{between}
 use Rattle.arabic.specs.Bytes.{Encodes, LetterFrom, SomeLetter, Read, Wrote}
 use Rattle.arabic.specs.declared.normalize.Letter.{Letter}
@@ -49,10 +50,6 @@ finish-step : (c : ℕ) (t : Word) (j limit : ℕ) → j + length (encode t) ≡
 unfolding finish encode
 finish-step c [] j limit e = rw (eq-eqb j limit (omega arith)) refl
 finish-step c (d ∷ t) j limit e = rw (ne-eqb j limit (λ (q : j ≡ limit). omega (arith, cons-size d t, encode1-pos d))) refl
-
-no-letter : (w : Word) → length w ≤ 0 → w ≡ []
-no-letter [] h = refl
-no-letter (c ∷ w) h = absurd (omega arith)
 
 module _ {old : List ℕ} {limit turns : ℕ} {text : List ℕ} {i k : ℕ} (v : Inv old limit turns text i k) where
   next : i < limit → Next text i limit (drop limit old) (v .rest)
@@ -143,4 +140,4 @@ module _ {old : List ℕ} {limit turns : ℕ} {text : List ℕ} {i k : ℕ} (v :
   at-limit h = all-read (ahead.none-left text i limit (drop limit old) (v .rest) (v .to) h)
 
   pub after-turns : turns ≤ k → (cs : Word) → Encodes (take limit old) cs → Finished cs text limit
-  after-turns h = all-read (no-letter (v .rest) (omega (arith, v .enough)))
+  after-turns h = all-read (empty (v .rest) (omega (arith, v .enough)))

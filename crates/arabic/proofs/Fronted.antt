@@ -9,13 +9,14 @@ use lib.Dec.{leb, eqb}
 use lib.ListN.{length, take, drop, getD, length-append, length-take}
 use lib.Seq.{drop-append-add, drop-append-seam, take-append-seam}
 use borrow.Author.Tests.{leb-true, eqb-true}
-use Rattle.definition.specs.Words.{Word, pick, both, beginsWith}
+use Rattle.definition.specs.Words.{Word, pick, both, all, beginsWith}
 use Rattle.definition.specs.Tables.{Row, «A_4», «A_5», «A_6», «A_7», «A_8», «A_9»}
 use Rattle.definition.specs.Search.{rowAt, guard, taken}
 use Rattle.definition.specs.Tries.{failed}
 use Rattle.definition.specs.Fronts.{PrefixStep, prefixStep1, prefixStep2, prefixStep3aNoun, prefixStep3bNoun, prefixStep3Verb, prefixStep4Verb, prefix, replacements, notAt, Applied, frontRow, replacement, Fronting, text, passing, headed, change, beginsWithAny, applyBy, applyUnless, apply, started}
 use Rattle.definition.proofs.Match.{by, by-le, both-0, both-1, begins-split}
-use Rattle.definition.proofs.Found.{taken-some, all, all-at}
+use Rattle.definition.proofs.Found.{taken-some, all-at}
+use Rattle.definition.proofs.FrontRows.{replacedBy}
 use Rattle.utf8.specs.Utf8.{Scalars, encode, encode1}
 use Rattle.utf8.specs.Places.{size, At}
 use Rattle.utf8.proofs.Text.{scalars-right}
@@ -54,16 +55,13 @@ module _ (s : PrefixStep) (t rest : Word) (at : ℕ) (f : Found) (a : Ahead (pre
         record { class = a .class ∙ sym (ap (classBy s) q); cursor = a .cursor ∙ sym (ap (behindBy s at) q) }
 
 -- ---- a test of every step's rows: the row has letters and a class that is listed, and what is put for it is no longer in bytes
-abbrev put : PrefixStep → Row → Word
-put s k = getD (replacements s) (k .class - 1) []
-
 abbrev rowFits : PrefixStep → Row → Bool
 rowFits s k =
     both (leb 1 (length (k .letters)))
     (both (leb 1 (k .class))
     (both (leb (k .class) (length (replacements s)))
-    (both (low (put s k))
-    (leb (size (put s k)) (size (k .letters))))))
+    (both (low (replacedBy s k))
+    (leb (size (replacedBy s k)) (size (k .letters))))))
 
 rows-fit : (s : PrefixStep) → all (rowFits s) (prefix s .table) ≡ true
 unfolding prefix replacements «A_4» «A_5» «A_6» «A_7» «A_8» «A_9» encode encode1
@@ -78,8 +76,8 @@ record RowFits (s : PrefixStep) (k : Row) : Type 0 where
   letters : 1 ≤ length (k .letters)
   class : 1 ≤ k .class
   listed : k .class ≤ length (replacements s)
-  scalars : Scalars (put s k)
-  shorter : size (put s k) ≤ size (k .letters)
+  scalars : Scalars (replacedBy s k)
+  shorter : size (replacedBy s k) ≤ size (k .letters)
 
 row-fits : (s : PrefixStep) (r : ℕ) → r < length (prefix s .table) → RowFits s (rowAt (prefix s .table) r)
 row-fits s r h =
@@ -92,8 +90,8 @@ row-fits s r h =
       letters = leb-true 1 (length (k .letters)) (both-0 _ _ e);
       class = leb-true 1 (k .class) (both-0 _ _ e1);
       listed = leb-true (k .class) (length (replacements s)) (both-0 _ _ e2);
-      scalars = low-scalars (put s k) (both-0 (low (put s k)) _ e3);
-      shorter = leb-true (size (put s k)) (size (k .letters)) (both-1 (low (put s k)) _ e3);
+      scalars = low-scalars (replacedBy s k) (both-0 (low (replacedBy s k)) _ e3);
+      shorter = leb-true (size (replacedBy s k)) (size (k .letters)) (both-1 (low (replacedBy s k)) _ e3);
     }
 
 -- ---- rows of replacements

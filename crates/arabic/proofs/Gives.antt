@@ -10,11 +10,10 @@ use lib.ListN.{getD}
 use borrow.Author.Tests.{ltb-true, ne-eqb, lt-ltb, le-ltb}
 use Rattle.utf8.specs.Utf8.{Scalar, Scalars, encode1, encode}
 use Rattle.utf8.proofs.Text.{encode-one, encode-append, scalars-append}
-use Rattle.definition.specs.Words.{Word, both, same}
+use Rattle.definition.specs.Words.{Word, both, all, same}
 use Rattle.definition.specs.Tables.{Row, Table}
 use Rattle.definition.specs.Normal.{gives, listedFor, given, normal, normalise}
 use Rattle.definition.proofs.Match.{both-0, both-1, by, same-eq}
-use Rattle.definition.proofs.Found.{all}
 use Rattle.arabic.specs.Rows.{classOf, packed, unpacked, givenFrom, packedGives}
 use Rattle.arabic.proofs.Table.{kept, normal-class}
 

@@ -8,7 +8,7 @@ use lib.ListN.{length, getD, length-append, length-drop}
 use lib.Seq.{getD-drop}
 use Rattle.definition.proofs.Match.{by-le}
 use Rattle.utf8.specs.Utf8.{Scalar, encode1}
-use Rattle.utf8.proofs.Utf8.{encode1-1, encode1-2, encode1-3, encode1-4}
+use Rattle.utf8.proofs.Encoding.{encode1-1, encode1-2, encode1-3, encode1-4}
 use Rattle.utf8.proofs.Text.{encode1-pos}
 use Rattle.arabic.specs.Bytes.{SomeLetter}
 

@@ -11,12 +11,12 @@ use lib.ListN.{length, getD, length-append, List·getD-map}
 use borrow.Author.Tests.{ltb-true, leb-true}
 use Rattle.utf8.specs.Utf8.{encode1, encode}
 use Rattle.utf8.proofs.Text.{encode-one, encode-append}
-use Rattle.definition.specs.Words.{Word, both, beginsWith}
+use Rattle.definition.specs.Words.{Word, both, all, beginsWith}
 use Rattle.definition.specs.Tables.{Row, «A_0»}
 use Rattle.definition.specs.Search.{rowAt}
 use Rattle.definition.specs.Normal.{gives, listedFor, given, normal, normalise}
 use Rattle.definition.proofs.Match.{both-0, both-1, begins-split, begins-of}
-use Rattle.definition.proofs.Found.{all, all-at, longest-found, row-behind}
+use Rattle.definition.proofs.Found.{all-at, longest-found, row-behind}
 use Rattle.definition.proofs.Unique.{longest-at, longest-none}
 use Rattle.arabic.specs.Rows.{keyOf, keys, classes, rowOf, classOf}
 

@@ -49,7 +49,7 @@ unfolding again cut
 again-none s zero v h = refl
 again-none s (suc n) v h = ap (λ (o : Option ℕ). whileDone (cutBy s v o) (again n (cut s))) (idle-empty s v h (search s v) refl)
 
-pub again-bound : (s : SuffixStep) (n m : ℕ) (v : Cutting) → length (v .text) ≤ n → length (v .text) ≤ m → again n (cut s) v ≡ again m (cut s) v
+again-bound : (s : SuffixStep) (n m : ℕ) (v : Cutting) → length (v .text) ≤ n → length (v .text) ≤ m → again n (cut s) v ≡ again m (cut s) v
 unfolding again cut
 again-bound s zero m v h g = sym (again-none s m v h)
 again-bound s (suc n) zero v h g = again-none s (suc n) v g

@@ -17,7 +17,8 @@ use Rattle.definition.specs.Finish.{last, other, finish}
 use Rattle.definition.specs.Fronts.{Applied, prefixStep4Verb}
 use Rattle.definition.specs.Demand3.{isApplied, place, Change, last-hamza, other-alef, other-waw, other-yeh, last-yeh, fourth-alef, stays}
 use Rattle.definition.proofs.Match.{both-0, both-1, by}
-use Rattle.definition.proofs.Fronting.{Verbal, Fourth, fourth}
+use Rattle.definition.proofs.FrontRows.{Verbal}
+use Rattle.definition.proofs.Fronting.{Fourth, fourth}
 use Rattle.definition.proofs.Lengths.{maqsura-if-length, fourth-length}
 
 -- ---- item 3's change of the last letter
@@ -148,7 +149,7 @@ outside c e = by (leb alefMadda c)
     (λ t. inr (leb-false c yehHamza (sym (ap (λ (b : Bool). both b (leb c yehHamza)) t) ∙ e)))
     (λ t. inl (leb-false alefMadda c t))
 
-pub outside-five : (c : ℕ) → (c ≡ alefMadda → ⊥) → (c ≡ alefHamzaAbove → ⊥) → (c ≡ wawHamza → ⊥) → (c ≡ alefHamzaBelow → ⊥) → (c ≡ yehHamza → ⊥) → Outside c
+outside-five : (c : ℕ) → (c ≡ alefMadda → ⊥) → (c ≡ alefHamzaAbove → ⊥) → (c ≡ wawHamza → ⊥) → (c ≡ alefHamzaBelow → ⊥) → (c ≡ yehHamza → ⊥) → Outside c
 outside-five c a b d e f = by (leb alefMadda c)
     (λ t. let l = leb-true alefMadda c t in inr (omega arith))
     (λ t. inl (leb-false alefMadda c t))

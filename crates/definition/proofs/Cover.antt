@@ -10,11 +10,11 @@ use lib.Dec.{leb, ltb}
 use lib.ListN.{length, take, drop, length-drop}
 use lib.Seq.{drop-drop}
 use borrow.Author.Tests.{leb-true, leb-false, le-leb, ltb-true}
-use Rattle.definition.specs.Words.{Word, pick, both, same, endsWith}
+use Rattle.definition.specs.Words.{Word, pick, both, all, same, endsWith}
 use Rattle.definition.specs.Tables.{Row}
 use Rattle.definition.specs.Search.{rowAt, longest, Rule, guard, met, taken}
-use Rattle.definition.proofs.Match.{both-0, both-1, by, same-eq, same-refl, ends-split, ends-of}
-use Rattle.definition.proofs.Found.{Found, all, all-at, longest-found, longest-longest, no-letters}
+use Rattle.definition.proofs.Match.{both-0, both-1, either, either-right, either-not, by, same-eq, same-refl, ends-split, ends-of}
+use Rattle.definition.proofs.Found.{Found, all-at, longest-found, longest-longest, no-letters}
 
 ends-ends : (w key k : Word) → endsWith w key ≡ true → endsWith key k ≡ true → endsWith w k ≡ true
 ends-ends w key k p q =
@@ -35,23 +35,12 @@ ends-shorter w key k p q h =
     ap (drop (length key - length k)) (sym a) ∙ drop-drop (length key - length k) (length w - length key) w ∙ ap (λ (i : ℕ). drop i w) s ∙ b in
     ap (λ (x : Word). same x k) c ∙ same-refl k
 
-abbrev pub either : Bool → Bool → Bool
-either a b = pick a true b
-
-pub either-right : (a b : Bool) → b ≡ true → either a b ≡ true
-either-right true b e = refl
-either-right false b e = e
-
-pub either-not : (a b : Bool) → a ≡ true → either (not a) b ≡ true → b ≡ true
-either-not true b p e = e
-either-not false b p e = absurd (false≢true p)
-
 -- the row and the key can both be ends of one word
 abbrev pub compatible : Word → Word → Bool
 compatible key k = either (endsWith key k) (endsWith k key)
 
 -- each row of the rule that fits the key has a letter, a class and a guard of at most bound
-abbrev pub coverRow : Rule → Word → ℕ → Row → Bool
+abbrev coverRow : Rule → Word → ℕ → Row → Bool
 coverRow s key bound k =
     either (not (compatible key (k .letters))) (both (leb 1 (length (k .letters))) (both (leb 1 (k .class)) (leb (guard (s .guards) (k .class)) bound)))
 

@@ -9,7 +9,7 @@ use lib.Dec.{leb}
 use lib.ListN.{length, take, length-append}
 use lib.Seq.{take-at}
 use borrow.Author.Tests.{leb-true}
-use Rattle.definition.specs.Words.{Word, both, endsWith}
+use Rattle.definition.specs.Words.{Word, both, all, endsWith}
 use Rattle.definition.specs.Tables.{Row, «A_10», «A_11», «A_12», «A_13», «A_14», «A_15», «A_16», «A_17», «A_18», «A_19», «A_20»}
 use Rattle.definition.specs.Search.{rowAt, guard, taken}
 use Rattle.definition.specs.Tries.{after, nothing}
@@ -18,7 +18,7 @@ use Rattle.definition.specs.Endings.{SuffixStep, verbStep1, verbStep2a, 
 use Rattle.definition.specs.Stem.{without}
 use Rattle.definition.specs.Demand3.{CutFrom, CutInTurn}
 use Rattle.definition.proofs.Match.{both-0, both-1, ends-split}
-use Rattle.definition.proofs.Found.{Taken, taken-some, all, all-at}
+use Rattle.definition.proofs.Found.{Taken, taken-some, all-at}
 use Rattle.definition.proofs.Triples.{Ends, Keeps, keeps-first, keeps-then, keeps-if, does-again, ends-after}
 
 -- a step of the noun
@@ -101,7 +101,7 @@ module _ (s : SuffixStep) (r : ℕ) (h : r < length (suffix s .table)) where
   pub row-some : 1 ≤ length (rowAt (suffix s .table) r .letters)
   row-some = leb-true 1 (length (row .letters)) (both-0 (leb 1 (length (row .letters))) _ row-fits)
 
-  pub row-least : length (rowAt (suffix s .table) r .letters) + 2 ≤ guard (suffix s .guards) (rowAt (suffix s .table) r .class)
+  row-least : length (rowAt (suffix s .table) r .letters) + 2 ≤ guard (suffix s .guards) (rowAt (suffix s .table) r .class)
   row-least =
       leb-true (length (row .letters) + 2) (guard (suffix s .guards) (row .class)) (both-1 (leb 1 (length (row .letters))) _ row-fits)
 

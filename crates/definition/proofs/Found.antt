@@ -9,7 +9,7 @@ use native.Mathlib.Omega.{arith}
 use lib.Dec.{leb}
 use lib.ListN.{length}
 use borrow.Author.Tests.{leb-true, leb-false}
-use Rattle.definition.specs.Words.{Word, pick, both}
+use Rattle.definition.specs.Words.{Word, pick, all}
 use Rattle.definition.specs.Tables.{Row, Table}
 use Rattle.definition.specs.Search.{rowAt, longer, longest, Rule, guard, met, taken}
 use Rattle.definition.proofs.Match.{both-0, both-1}
@@ -69,7 +69,7 @@ pub no-letters : (t : Table) → length (rowAt t (length t) .letters) ≡ 0
 no-letters [] = refl
 no-letters (k ∷ t) = no-letters t
 
-pub met-guard : (least : List ℕ) (k n : ℕ) → met least k n ≡ true → guard least k ≤ n
+met-guard : (least : List ℕ) (k n : ℕ) → met least k n ≡ true → guard least k ≤ n
 unfolding met
 met-guard least zero n e = absurd (false≢true e)
 met-guard least (suc k) n e = leb-true (guard least (suc k)) n e
@@ -108,10 +108,6 @@ module _ (match : Word → Bool) (s : Rule) (n : ℕ) where
       go false m e = let z : _≡_ {A = ℕ} 0 1 = cc in absurd (omega arith)
 
 -- ---- a test of every row
-abbrev pub all : (Row → Bool) → Table → Bool
-all p [] = true
-all p (k ∷ t) = both (p k) (all p t)
-
 pub all-at : (p : Row → Bool) (t : Table) → all p t ≡ true → (r : ℕ) → r < length t → p (rowAt t r) ≡ true
 all-at p [] e r h = absurd (omega arith)
 all-at p (k ∷ t) e zero h = both-0 (p k) (all p t) e

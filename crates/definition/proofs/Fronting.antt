@@ -1,182 +1,24 @@
 -- The fronts: what they take is a prefix, in item 4's order; of what stays one letter at most is changed. Assumes nothing.
 use mathlib.Core.Path.{_≡_, refl, sym, ap, _∙_, subst}
 use mathlib.Core.Bool.{Bool, true, false, false≢true}
-use mathlib.Core.Logic.{_⊎_, inl, inr}
 use mathlib.Core.List.{List, [], _∷_, _++_, append-assoc, append-nil}
 use mathlib.Core.Option.{Option, none, some}
 use Prim.Native.Nat.{ℕ, suc, _+_, _-_, _*_, _≤_, _<_, min}
 use native.Mathlib.Omega.{arith}
-use lib.Dec.{leb, eqb}
 use lib.ListN.{length, take, drop, getD, set, length-append, take-append-drop, List·getD-append}
 use lib.Seq.{length-take-le, set-append-seam, getD-append-seam}
-use borrow.Author.Tests.{leb-true, eqb-true}
-use Rattle.definition.specs.Letters.{alef, teh, noon, yeh}
-use Rattle.definition.specs.Words.{Word, pick, both, same, beginsWith}
-use Rattle.definition.specs.Tables.{Row, «A_4», «A_5», «A_6», «A_7», «A_8», «A_9»}
+use Rattle.definition.specs.Letters.{alef}
+use Rattle.definition.specs.Words.{Word, pick, beginsWith}
+use Rattle.definition.specs.Tables.{«A_4»}
 use Rattle.definition.specs.Search.{rowAt, guard, taken}
-use Rattle.definition.specs.Tries.{after, _thenTry_, firstOf, attempt}
+use Rattle.definition.specs.Tries.{_thenTry_, firstOf, attempt}
 use Rattle.definition.specs.Kind.{Kind, ifOpen}
-use Rattle.definition.specs.Fronts.{PrefixStep, prefixStep1, prefixStep2, prefixStep3aNoun, prefixStep3bNoun, prefixStep3Verb, prefixStep4Verb, prefix, replacements, notAt, Applied, frontRow, replacement, Fronting, text, passing, change, beginsWithAny, applyBy, applyUnless, apply, prefixSteps, started, fronts}
-use Rattle.definition.specs.Demand3.{at, unreplaced, toFront, frontOf, AtMostOne, unused, once, HeadOf, noHead, oneHead, Third, third-a, third-b, third-verb, InOrder, isApplied, place}
-use Rattle.definition.proofs.Match.{both-0, both-1, by, same-eq, begins-split}
-use Rattle.definition.proofs.Found.{Taken, taken-some, all, all-at}
+use Rattle.definition.specs.Fronts.{PrefixStep, prefixStep1, prefixStep2, prefixStep3aNoun, prefixStep3bNoun, prefixStep3Verb, prefixStep4Verb, prefix, notAt, Applied, at, frontRow, replacement, unreplaced, Fronting, text, passing, change, beginsWithAny, applyBy, applyUnless, apply, prefixSteps, started, fronts}
+use Rattle.definition.specs.Demand3.{toFront, frontOf, AtMostOne, unused, once, HeadOf, noHead, oneHead, Third, third-a, third-b, third-verb, InOrder, isApplied, place}
+use Rattle.definition.proofs.Match.{empty, begins-split}
+use Rattle.definition.proofs.Found.{Taken, taken-some}
 use Rattle.definition.proofs.Triples.{Ends, Does, ends-after, does-then, does-or, does-last, does-attempt, does-if}
-
--- ---- a test of a step's rows: the replacement is the row's end, at most so many letters go, and three letters stay
-abbrev replacedBy : PrefixStep → Row → Word
-replacedBy s k = getD (replacements s) (k .class - 1) []
-
-abbrev passFits : ℕ → PrefixStep → Row → Bool
-passFits most s k =
-    both (same (drop (length (k .letters) - length (replacedBy s k)) (k .letters)) (replacedBy s k))
-    (both (leb (length (replacedBy s k)) (length (k .letters)))
-    (both (leb (length (k .letters)) (length (replacedBy s k) + most))
-    (leb (length (k .letters) + 3) (guard (prefix s .guards) (k .class) + length (replacedBy s k)))))
-
-abbrev PassRows : ℕ → PrefixStep → Type 0
-PassRows most s = all (passFits most s) (prefix s .table) ≡ true
-
-pass-2 : PassRows 1 prefixStep2
-unfolding prefix replacements «A_5» same
-pass-2 = refl
-
-pass-3a : PassRows 3 prefixStep3aNoun
-unfolding prefix replacements «A_6» same
-pass-3a = refl
-
-pass-3b : PassRows 1 prefixStep3bNoun
-unfolding prefix replacements «A_7» same
-pass-3b = refl
-
-pass-3v : PassRows 1 prefixStep3Verb
-unfolding prefix replacements «A_8» same
-pass-3v = refl
-
-record Passes (most g : ℕ) (key new : Word) : Type 0 where
-  tail : drop (length key - length new) key ≡ new
-  shorter : length new ≤ length key
-  few : length key ≤ length new + most
-  stay : length key + 3 ≤ g + length new
-
-passes : (most : ℕ) (s : PrefixStep) → PassRows most s → (r : ℕ) → r < length (prefix s .table)
-    → Passes most (guard (prefix s .guards) (rowAt (prefix s .table) r .class)) (frontRow (at s r)) (replacement (at s r))
-unfolding frontRow replacement
-passes most s p r h =
-    let k : Row = rowAt (prefix s .table) r in
-    let new : Word = replacedBy s k in
-    let e : passFits most s k ≡ true = all-at (passFits most s) (prefix s .table) p r h in
-    let e1 = both-1 (same (drop (length (k .letters) - length new) (k .letters)) new) _ e in
-    let e2 = both-1 (leb (length new) (length (k .letters))) _ e1 in
-    record {
-      tail = same-eq (drop (length (k .letters) - length new) (k .letters)) new (both-0 _ _ e);
-      shorter = leb-true (length new) (length (k .letters)) (both-0 _ _ e1);
-      few = leb-true (length (k .letters)) (length new + most) (both-0 _ _ e2);
-      stay = leb-true (length (k .letters) + 3) (guard (prefix s .guards) (k .class) + length new) (both-1 (leb (length (k .letters)) (length new + most)) _ e2);
-    }
-
--- ---- a test of a step's rows: how many letters a replacement has
-abbrev NewRows : ℕ → PrefixStep → Type 0
-NewRows n s = all (λ (k : Row). eqb (length (replacedBy s k)) n) (prefix s .table) ≡ true
-
-new-2 : NewRows 0 prefixStep2
-unfolding prefix replacements «A_5»
-new-2 = refl
-
-new-3v : NewRows 1 prefixStep3Verb
-unfolding prefix replacements «A_8»
-new-3v = refl
-
-new-length : (n : ℕ) (s : PrefixStep) → NewRows n s → (r : ℕ) → r < length (prefix s .table) → length (replacement (at s r)) ≡ n
-unfolding replacement
-new-length n s p r h =
-    eqb-true (length (replacedBy s (rowAt (prefix s .table) r))) n (all-at (λ (k : Row). eqb (length (replacedBy s k)) n) (prefix s .table) p r h)
-
-empty : (w : Word) → length w ≡ 0 → w ≡ []
-empty [] e = refl
-empty (c ∷ w) e = absurd (omega arith)
-
--- ---- the rows of Step1: two letters, guard 4, and the replacement is one of the two
-abbrev either : Bool → Bool → Bool
-either a b = pick a true b
-
-abbrev headFits : Row → Bool
-headFits k =
-    both (eqb (length (k .letters)) 2)
-    (both (eqb (guard (prefix prefixStep1 .guards) (k .class)) 4)
-    (either (same (replacedBy prefixStep1 k) (getD (k .letters) 0 0 ∷ [])) (same (replacedBy prefixStep1 k) (getD (k .letters) 1 0 ∷ []))))
-
-head-rows : all headFits (prefix prefixStep1 .table) ≡ true
-unfolding prefix replacements «A_4» same
-head-rows = refl
-
-record Heads (r : ℕ) (key new : Word) : Type 0 where
-  two : length key ≡ 2
-  four : guard (prefix prefixStep1 .guards) (rowAt (prefix prefixStep1 .table) r .class) ≡ 4
-  kept : (i : ℕ) × (i < 2) × (new ≡ getD key i 0 ∷ [])
-
-heads : (r : ℕ) → r < length (prefix prefixStep1 .table) → Heads r (frontRow (at prefixStep1 r)) (replacement (at prefixStep1 r))
-unfolding frontRow replacement
-heads r h =
-    let k : Row = rowAt (prefix prefixStep1 .table) r in
-    let new : Word = replacedBy prefixStep1 k in
-    let e : headFits k ≡ true = all-at headFits (prefix prefixStep1 .table) head-rows r h in
-    let e1 = both-1 (eqb (length (k .letters)) 2) _ e in
-    let e2 = both-1 (eqb (guard (prefix prefixStep1 .guards) (k .class)) 4) _ e1 in
-    record {
-      two = eqb-true (length (k .letters)) 2 (both-0 _ _ e);
-      four = eqb-true (guard (prefix prefixStep1 .guards) (k .class)) 4 (both-0 _ _ e1);
-      kept = by (same new (getD (k .letters) 0 0 ∷ []))
-          (λ t. (0, omega arith, same-eq new (getD (k .letters) 0 0 ∷ []) t))
-          (λ t. (1, omega arith, same-eq new (getD (k .letters) 1 0 ∷ []) (rw t at e2)));
-    }
-
--- ---- the row of Step4_Verb: three letters, of which the first becomes 0627
-abbrev oneOf : ℕ → Bool
-oneOf c = either (eqb c teh) (either (eqb c noon) (eqb c yeh))
-
-abbrev fourFits : Row → Bool
-fourFits k =
-    both (same (k .letters) (getD (k .letters) 0 0 ∷ drop 1 (k .letters)))
-    (both (same (replacedBy prefixStep4Verb k) (alef ∷ drop 1 (k .letters)))
-    (both (eqb (length (drop 1 (k .letters))) 2) (oneOf (getD (k .letters) 0 0))))
-
-four-rows : all fourFits (prefix prefixStep4Verb .table) ≡ true
-unfolding prefix replacements «A_9» same
-four-rows = refl
-
-abbrev pub Verbal : ℕ → Type 0
-Verbal c = (c ≡ teh) ⊎ ((c ≡ noon) ⊎ (c ≡ yeh))
-
-one-of : (c : ℕ) → oneOf c ≡ true → Verbal c
-one-of c e =
-    by (eqb c teh) (λ t. inl (eqb-true c teh t))
-    (λ t. by (eqb c noon) (λ u. inr (inl (eqb-true c noon u))) (λ u. inr (inr (eqb-true c yeh (rw u at (rw t at e))))))
-
-record Fours (key new : Word) : Type 0 where
-  first : ℕ
-  others : Word
-  key-is : key ≡ first ∷ others
-  new-is : new ≡ alef ∷ others
-  two : length others ≡ 2
-  letter : Verbal first
-
-fours : (r : ℕ) → r < length (prefix prefixStep4Verb .table) → Fours (frontRow (at prefixStep4Verb r)) (replacement (at prefixStep4Verb r))
-unfolding frontRow replacement
-fours r h =
-    let k : Row = rowAt (prefix prefixStep4Verb .table) r in
-    let new : Word = replacedBy prefixStep4Verb k in
-    let c : ℕ = getD (k .letters) 0 0 in
-    let e : fourFits k ≡ true = all-at fourFits (prefix prefixStep4Verb .table) four-rows r h in
-    let e1 = both-1 (same (k .letters) (c ∷ drop 1 (k .letters))) _ e in
-    let e2 = both-1 (same new (alef ∷ drop 1 (k .letters))) _ e1 in
-    record {
-      first = c;
-      others = drop 1 (k .letters);
-      key-is = same-eq (k .letters) (c ∷ drop 1 (k .letters)) (both-0 _ _ e);
-      new-is = same-eq new (alef ∷ drop 1 (k .letters)) (both-0 _ _ e1);
-      two = eqb-true (length (drop 1 (k .letters))) 2 (both-0 _ _ e2);
-      letter = one-of c (both-1 (eqb (length (drop 1 (k .letters))) 2) _ e2);
-    }
+use Rattle.definition.proofs.FrontRows.{PassRows, pass-2, pass-3a, pass-3b, pass-3v, passes, new-2, new-3v, new-length, heads, Verbal, fours}
 
 -- ---- the head letter stays the same letter where the front grows
 pub head-in : (n front x head : Word) {ms : List Applied} → n ≡ front ++ x → HeadOf front front head ms → HeadOf n front head ms
@@ -195,35 +37,35 @@ head-on : (front more head : Word) {ms : List Applied} → HeadOf front front he
 head-on front more head h = head-more (front ++ more) front more head (head-in (front ++ more) front more head refl h)
 
 -- ---- what holds on the way. At most g letters are gone.
-pub record Way (s : Word) (g : ℕ) (f : Fronting) : Type 0 where
-  pub whole : s ≡ f .front ++ (f .passed ++ f .rest)
-  pub enough : 3 * min 1 (length (f .front)) ≤ length (f .head) + (length (f .passed) + length (f .rest))
-  pub gone : length (f .front) ≤ length (f .head) + g
-  pub fronts : f .front ≡ frontOf (f .applied)
-  pub no4 : isApplied prefixStep4Verb (f .applied) ≡ false
+record Way (s : Word) (g : ℕ) (f : Fronting) : Type 0 where
+  whole : s ≡ f .front ++ (f .passed ++ f .rest)
+  enough : 3 * min 1 (length (f .front)) ≤ length (f .head) + (length (f .passed) + length (f .rest))
+  gone : length (f .front) ≤ length (f .head) + g
+  fronts : f .front ≡ frontOf (f .applied)
+  no4 : isApplied prefixStep4Verb (f .applied) ≡ false
 
 -- before Step3: nothing is passed yet
-pub record Early (s : Word) (g : ℕ) (f : Fronting) : Type 0 where
-  pub way : Way s g f
-  pub bare : f .passed ≡ []
-  pub no3 : isApplied prefixStep3Verb (f .applied) ≡ false
-  pub first : List Applied
-  pub second : List Applied
-  pub step1 : HeadOf (f .front) (f .front) (f .head) first
-  pub step2 : AtMostOne prefixStep2 second
-  pub all : f .applied ≡ second ++ first
+record Early (s : Word) (g : ℕ) (f : Fronting) : Type 0 where
+  way : Way s g f
+  bare : f .passed ≡ []
+  no3 : isApplied prefixStep3Verb (f .applied) ≡ false
+  first : List Applied
+  second : List Applied
+  step1 : HeadOf (f .front) (f .front) (f .head) first
+  step2 : AtMostOne prefixStep2 second
+  all : f .applied ≡ second ++ first
 
 -- after Step3_Verb: only what it replaced is passed
-pub record Late (s : Word) (g : ℕ) (f : Fronting) : Type 0 where
-  pub way : Way s g f
-  pub passed : length (f .passed) ≡ place (f .applied)
-  pub first : List Applied
-  pub second : List Applied
-  pub third : List Applied
-  pub step1 : HeadOf (f .front) (f .front) (f .head) first
-  pub step2 : AtMostOne prefixStep2 second
-  pub step3 : AtMostOne prefixStep3Verb third
-  pub all : f .applied ≡ third ++ (second ++ first)
+record Late (s : Word) (g : ℕ) (f : Fronting) : Type 0 where
+  way : Way s g f
+  passed : length (f .passed) ≡ place (f .applied)
+  first : List Applied
+  second : List Applied
+  third : List Applied
+  step1 : HeadOf (f .front) (f .front) (f .head) first
+  step2 : AtMostOne prefixStep2 second
+  step3 : AtMostOne prefixStep3Verb third
+  all : f .applied ≡ third ++ (second ++ first)
 
 -- Step4_Verb's letter of the run, with two letters behind it
 pub record Fourth (ms : List Applied) (run : Word) : Type 0 where
@@ -245,12 +87,12 @@ pub record Fronted (s : Word) (f : Fronting) : Type 0 where
   pub order : InOrder (f .front) (f .front) (f .head) (f .applied)
   pub four : isApplied prefixStep4Verb (f .applied) ≡ true → Fourth (f .applied) run
 
-pub text-length : (f : Fronting) → length (text f) ≡ length (f .head) + (length (f .passed) + length (f .rest))
+text-length : (f : Fronting) → length (text f) ≡ length (f .head) + (length (f .passed) + length (f .rest))
 text-length f = length-append (f .head) (f .passed ++ f .rest) ∙ ap (λ (n : ℕ). length (f .head) + n) (length-append (f .passed) (f .rest))
 
 -- ---- any step
 module _ (Q R : Fronting → Type 0) (st : PrefixStep) (f : Fronting) where
-  pub step-ends : R f → ((r : ℕ) → Taken (beginsWith (f .rest)) (prefix st) (length (text f)) r → Q (change st f (at st r))) → Ends Q R (apply st f)
+  step-ends : R f → ((r : ℕ) → Taken (beginsWith (f .rest)) (prefix st) (length (text f)) r → Q (change st f (at st r))) → Ends Q R (apply st f)
   unfolding apply
   step-ends n y = bar (beginsWithAny (f .rest) (notAt st))
     where

@@ -17,7 +17,7 @@ use Rattle.definition.specs.Fronts.{Applied, prefixStep4Verb}
 use Rattle.definition.specs.Demand3.{HeadOf, noHead, oneHead, isApplied, place}
 use Rattle.definition.proofs.Fronting.{fourth}
 
-pub maqsura-length : (w : Word) → length (suffixAllAlefMaqsura w) ≡ length w
+maqsura-length : (w : Word) → length (suffixAllAlefMaqsura w) ≡ length w
 unfolding suffixAllAlefMaqsura
 maqsura-length [] = refl
 maqsura-length (c ∷ []) = refl

@@ -12,6 +12,7 @@ pub mod Cover
 pub mod Step1a
 pub mod Again
 pub mod NoonAlef
+pub mod FrontRows
 pub mod Fronting
 pub mod Lengths
 pub mod Whole

@@ -5,7 +5,7 @@ use mathlib.Core.List.{[], _∷_, map}
 use Prim.Native.Nat.{ℕ, _≤_, _<_}
 use lib.ListN.{length}
 use Rattle.definition.specs.Letters.{hamza, alef, waw, yeh}
-use Rattle.definition.specs.Words.{Word, beginsWith, endsWith}
+use Rattle.definition.specs.Words.{Word, all, beginsWith, endsWith}
 use Rattle.definition.specs.Tables.{Table, «A_1», «A_2», «A_21»}
 use Rattle.definition.specs.Search.{rowAt, longest}
 use Rattle.definition.specs.Tries.{done, again}
@@ -19,7 +19,7 @@ use Rattle.definition.specs.Examples.{computed, twelve, work, examples}
 use Rattle.definition.proofs.Examples.{examples-right}
 use Rattle.definition.proofs.Rows.{replaced, last-rows, other-rows, maqsura-row}
 use Rattle.definition.proofs.Found.{Longest}
-use Rattle.definition.proofs.Unique.{distinct, rigid-front, rigid-end, longest-is}
+use Rattle.definition.proofs.Unique.{distinct, rigid-front, rigid-end, longest-is, allTables, distinct-all}
 use Rattle.definition.proofs.Step1a.{Idle, AllSteps, notStep1a, no-step1a}
 use Rattle.definition.proofs.Again.{again-ends}
 use Rattle.definition.proofs.NoonAlef.{AllCuts, NotNoonAlef, no-noon-alef}
@@ -53,6 +53,10 @@ main-front w t d = longest-is (beginsWith w) t d (rigid-front w)
 pub main-end : (w : Word) (t : Table) → distinct t ≡ true → (r : ℕ) → r < length t → endsWith w (rowAt t r .letters) ≡ true
     → Longest (endsWith w) t r → longest (endsWith w) t ≡ r
 main-end w t d = longest-is (endsWith w) t d (rigid-end w)
+
+-- all 22 tables are such tables
+pub main-distinct : all distinct allTables ≡ true
+main-distinct = distinct-all
 
 -- a step that is repeated as often as the word has letters ends where it takes no row
 pub main-again : (s : SuffixStep) (n : ℕ) (v : Cutting) → length (v .text) ≤ n → (x : Cutting) × (again n (cut s) v ≡ done x) × Idle s x

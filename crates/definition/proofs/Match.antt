@@ -1,6 +1,6 @@
 -- Tests and their two answers; a key at the front or at the end splits the word. Assumes nothing.
 use mathlib.Core.Path.{_≡_, refl, sym, ap, _∙_}
-use mathlib.Core.Bool.{Bool, true, false, false≢true}
+use mathlib.Core.Bool.{Bool, true, false, false≢true, not}
 use mathlib.Core.List.{[], _∷_, _++_}
 use Prim.Native.Nat.{ℕ, _+_, _-_, _≤_, _<_}
 use lib.Dec.{eqb, leb}
@@ -8,7 +8,7 @@ use lib.ListN.{length, take, drop, take-append-drop, length-append}
 use lib.Seq.{take-append-seam, drop-at}
 use native.Mathlib.Omega.{arith}
 use borrow.Author.Tests.{eqb-true, eq-eqb, leb-true, leb-false}
-use Rattle.definition.specs.Words.{Word, both, same, beginsWith, endsWith}
+use Rattle.definition.specs.Words.{Word, pick, both, same, beginsWith, endsWith}
 
 pub both-0 : (a b : Bool) → both a b ≡ true → a ≡ true
 both-0 true b e = refl
@@ -17,6 +17,17 @@ both-0 false b e = absurd (false≢true e)
 pub both-1 : (a b : Bool) → both a b ≡ true → b ≡ true
 both-1 true b e = e
 both-1 false b e = absurd (false≢true e)
+
+abbrev pub either : Bool → Bool → Bool
+either a b = pick a true b
+
+pub either-right : (a b : Bool) → b ≡ true → either a b ≡ true
+either-right true b e = refl
+either-right false b e = e
+
+pub either-not : (a b : Bool) → a ≡ true → either (not a) b ≡ true → b ≡ true
+either-not true b p e = e
+either-not false b p e = absurd (false≢true p)
 
 pub by {κ} : {B : Type κ} (b : Bool) → (b ≡ true → B) → (b ≡ false → B) → B
 by true f g = f refl
@@ -27,6 +38,10 @@ by-le m n f g = by (leb m n) (λ e. f (leb-true m n e)) (λ e. g (leb-false m n 
 
 pub clash : {b : Bool} → b ≡ true → b ≡ false → ⊥
 clash p q = false≢true (sym q ∙ p)
+
+pub empty : (w : Word) → length w ≡ 0 → w ≡ []
+empty [] e = refl
+empty (c ∷ w) e = absurd (omega arith)
 
 pub same-eq : (x y : Word) → same x y ≡ true → x ≡ y
 unfolding same

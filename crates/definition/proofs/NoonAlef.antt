@@ -3,15 +3,15 @@ use mathlib.Core.Path.{_≡_, refl, sym, subst}
 use mathlib.Core.Bool.{true}
 use mathlib.Core.List.{List, [], _∷_}
 use mathlib.Core.Option.{Option, none, some}
-use Prim.Native.Nat.{ℕ, _≤_, _<_}
+use Prim.Native.Nat.{ℕ, _<_}
 use native.Mathlib.Omega.{arith}
 use lib.ListN.{length}
 use Rattle.definition.specs.Letters.{alef, noon}
 use Rattle.definition.specs.Words.{Word, same, endsWith}
 use Rattle.definition.specs.Tables.{«A_17», «A_18»}
 use Rattle.definition.specs.Search.{longer, longest, taken}
-use Rattle.definition.specs.Tries.{Try, done, nothing, _thenTry_, firstOf, again}
-use Rattle.definition.specs.Kind.{Kind, OPEN, DEFINED, ifOpen}
+use Rattle.definition.specs.Tries.{Try, nothing, _thenTry_, firstOf, again}
+use Rattle.definition.specs.Kind.{Kind, ifOpen}
 use Rattle.definition.specs.Endings.{SuffixStep, verbStep1, verbStep2a, verbStep2b, verbStep2c, nounStep1a, nounStep1b, nounStep2a, nounStep2b, nounStep2c1, nounStep2c2, nounStep3, suffix, Cut, Cutting, cutOff, cutBy, cut, verb, noun, endings}
 use Rattle.definition.specs.Stem.{cutting}
 use Rattle.definition.proofs.Found.{taken-some}
@@ -22,7 +22,7 @@ use Rattle.definition.proofs.Step1a.{Idle}
 use Rattle.definition.proofs.Again.{shorter, again-ends}
 
 -- the row's number in A_18
-abbrev pub noonAlef : ℕ
+abbrev noonAlef : ℕ
 noonAlef = 8
 
 -- a cut by another row or another step

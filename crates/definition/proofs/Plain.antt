@@ -1,6 +1,6 @@
 -- No letter of a normalised word is a key of A_0, and no letter of a stem is one or one of 0622 to 0626. Assumes nothing.
 use mathlib.Core.Path.{_≡_, refl, sym, ap, _∙_, subst}
-use mathlib.Core.Bool.{Bool, true, false, false≢true, not}
+use mathlib.Core.Bool.{Bool, true, false≢true, not}
 use mathlib.Core.Logic.{inl, inr}
 use mathlib.Core.List.{List, [], _∷_, _++_}
 use Prim.Native.Nat.{ℕ, zero, suc, _+_, _≤_, _<_}
@@ -9,14 +9,14 @@ use lib.Dec.{leb}
 use lib.ListN.{length, take, getD, length-append}
 use borrow.Author.Tests.{leb-true, not-true}
 use Rattle.definition.specs.Letters.{hamza, alef, waw, yeh}
-use Rattle.definition.specs.Words.{Word, both, same, beginsWith}
+use Rattle.definition.specs.Words.{Word, both, all, same, beginsWith}
 use Rattle.definition.specs.Tables.{Row, «A_0», «A_4»}
 use Rattle.definition.specs.Search.{rowAt, longest}
 use Rattle.definition.specs.Normal.{gives, listedFor, given, normal, normalise}
 use Rattle.definition.specs.Fronts.{Applied}
 use Rattle.definition.specs.Demand3.{HeadOf, noHead, oneHead, Change, last-hamza, other-alef, other-waw, other-yeh, last-yeh, fourth-alef, stays, Plain, AllOf}
 use Rattle.definition.proofs.Match.{both-0, both-1, same-refl}
-use Rattle.definition.proofs.Found.{Found, all, all-at, longest-found, longest-longest, row-behind, no-letters}
+use Rattle.definition.proofs.Found.{Found, all-at, longest-found, longest-longest, row-behind, no-letters}
 use Rattle.definition.proofs.Changed.{Outside}
 
 -- ---- all letters of a word
@@ -59,7 +59,7 @@ otherRow c k = not (same (k .letters) (c ∷ []))
 abbrev noKey : ℕ → Bool
 noKey c = all (otherRow c) «A_0»
 
-pub no-key : (c : ℕ) → noKey c ≡ true → NoKey c
+no-key : (c : ℕ) → noKey c ≡ true → NoKey c
 no-key c e r h q =
     let a = not-true (same (rowAt «A_0» r .letters) (c ∷ [])) (all-at (otherRow c) «A_0» e r h) in
     false≢true (sym a ∙ ap (λ (x : Word). same x (c ∷ [])) q ∙ same-refl (c ∷ []))

@@ -5,7 +5,7 @@ use mathlib.Core.List.{List, [], _∷_}
 use mathlib.Core.Option.{Option, none, some}
 use Prim.Native.Nat.{ℕ}
 use lib.ListN.{length}
-use Rattle.definition.specs.Words.{Word, pick, same, endsWith}
+use Rattle.definition.specs.Words.{Word, pick, all, same, endsWith}
 use Rattle.definition.specs.Tables.{Row, «A_10», «A_17», «A_18»}
 use Rattle.definition.specs.Search.{rowAt, longer, longest, guard, taken}
 use Rattle.definition.specs.Tries.{Step, nothing, _thenTry_, firstOf, again}
@@ -13,7 +13,7 @@ use Rattle.definition.specs.Kind.{Kind, OPEN, DEFINED, ifOpen}
 use Rattle.definition.specs.Endings.{SuffixStep, verbStep1, verbStep2a, verbStep2b, verbStep2c, nounStep1a, nounStep1b, nounStep2a, nounStep2b, nounStep2c1, nounStep2c2, nounStep3, suffix, Cut, Cutting, cutOff, cutBy, cut, verb, noun, endings}
 use Rattle.definition.specs.Stem.{cutting}
 use Rattle.definition.proofs.Match.{by}
-use Rattle.definition.proofs.Found.{taken-some, all, all-at}
+use Rattle.definition.proofs.Found.{taken-some, all-at}
 use Rattle.definition.proofs.Triples.{Ends, Does, Keeps, ends-after, weaker, does-then, does-or, does-last, does-again, keeps-first, keeps-then, keeps-if}
 use Rattle.definition.proofs.Cover.{covers, cover}
 

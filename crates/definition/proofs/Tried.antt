@@ -4,7 +4,7 @@ use mathlib.Core.List.{List, [], _∷_}
 use Rattle.definition.specs.Tries.{Try, done, failed, Step, orElse, firstOf}
 
 module _ {A : Type 0} where
-  abbrev pub firstFrom : Try A → List (Step A) → Try A
+  abbrev firstFrom : Try A → List (Step A) → Try A
   firstFrom t [] = t
   firstFrom t (g ∷ gs) = firstFrom (orElse t g) gs
 

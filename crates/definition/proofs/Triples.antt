@@ -64,7 +64,7 @@ module _ {A : Type 0} where
     abbrev pub Keeps : Step A → Type 0
     Keeps f = Does P P P f
 
-    abbrev pub AllKeep : List (Step A) → Type 0
+    abbrev AllKeep : List (Step A) → Type 0
     AllKeep [] = Unit {0}
     AllKeep (f ∷ fs) = Keeps f × AllKeep fs
 

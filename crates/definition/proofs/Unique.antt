@@ -1,6 +1,6 @@
 -- The search's answer is the only row that matches and is longest, in every table whose rows differ; all 22 are such tables. Assumes nothing.
 use mathlib.Core.Path.{_≡_, refl, sym, ap, _∙_}
-use mathlib.Core.Bool.{Bool, true, false, false≢true, not}
+use mathlib.Core.Bool.{Bool, true, false≢true, not}
 use mathlib.Core.Logic.{inl, inr}
 use mathlib.Core.List.{List, [], _∷_}
 use Prim.Native.Nat.{ℕ, zero, suc, _-_, _≤_, _<_}
@@ -8,11 +8,11 @@ use native.Mathlib.Omega.{arith}
 use lib.Dec.{leb}
 use lib.ListN.{length, take, drop}
 use borrow.Author.Tests.{leb-true, le-leb, lt-leb, not-true}
-use Rattle.definition.specs.Words.{Word, pick, both, same, beginsWith, endsWith}
+use Rattle.definition.specs.Words.{Word, pick, both, all, same, beginsWith, endsWith}
 use Rattle.definition.specs.Tables.{Row, Table, «A_0», «A_1», «A_2», «A_3», «A_4», «A_5», «A_6», «A_7», «A_8», «A_9», «A_10», «A_11», «A_12», «A_13», «A_14», «A_15», «A_16», «A_17», «A_18», «A_19», «A_20», «A_21»}
 use Rattle.definition.specs.Search.{rowAt, longer, longest}
 use Rattle.definition.proofs.Match.{both-0, both-1, by, same-eq, same-refl}
-use Rattle.definition.proofs.Found.{Found, Longest, all, all-at, longest-found, longest-longest, no-letters}
+use Rattle.definition.proofs.Found.{Found, Longest, all-at, longest-found, longest-longest, no-letters}
 
 -- every row has a letter, and no two rows are the same
 abbrev pub distinct : Table → Bool
@@ -42,7 +42,7 @@ one-row (k ∷ t) d (suc r) (suc s) h g e =
     ap suc (one-row t (distinct-tail k t d) r s (omega arith) (omega arith) e)
 
 -- of two words that match, equally long, both are the same
-abbrev pub Rigid : (Word → Bool) → Type 0
+abbrev Rigid : (Word → Bool) → Type 0
 Rigid match = (a b : Word) → match a ≡ true → match b ≡ true → length a ≡ length b → a ≡ b
 
 pub rigid-front : (w : Word) → Rigid (beginsWith w)
@@ -103,10 +103,6 @@ allTables =
     «A_0» ∷ «A_1» ∷ «A_2» ∷ «A_3» ∷ «A_4» ∷ «A_5» ∷ «A_6» ∷ «A_7» ∷ «A_8» ∷ «A_9» ∷ «A_10»
     ∷ «A_11» ∷ «A_12» ∷ «A_13» ∷ «A_14» ∷ «A_15» ∷ «A_16» ∷ «A_17» ∷ «A_18» ∷ «A_19» ∷ «A_20» ∷ «A_21» ∷ []
 
-abbrev allDistinct : List Table → Bool
-allDistinct [] = true
-allDistinct (t ∷ ts) = both (distinct t) (allDistinct ts)
-
-pub distinct-all : allDistinct allTables ≡ true
+pub distinct-all : all distinct allTables ≡ true
 unfolding «A_0» «A_1» «A_2» «A_3» «A_4» «A_5» «A_6» «A_7» «A_8» «A_9» «A_10» «A_11» «A_12» «A_13» «A_14» «A_15» «A_16» «A_17» «A_18» «A_19» «A_20» «A_21» same
 distinct-all = refl

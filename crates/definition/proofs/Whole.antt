@@ -7,7 +7,7 @@ use lib.ListN.{length, drop, length-append}
 use Rattle.definition.specs.Words.{Word}
 use Rattle.definition.specs.Kind.{Kind}
 use Rattle.definition.specs.Endings.{joined, endings, maqsuraIfFailed}
-use Rattle.definition.specs.Fronts.{Fronting, text}
+use Rattle.definition.specs.Fronts.{Fronting}
 use Rattle.definition.specs.Finish.{finish}
 use Rattle.definition.specs.Stem.{cutting, fronting, stemOf, without}
 use Rattle.definition.proofs.Cutting.{Kept, endings-kept, without-is}

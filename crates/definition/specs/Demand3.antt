@@ -4,9 +4,9 @@ use mathlib.Core.Bool.{Bool, true, false}
 use mathlib.Core.Logic.{_⊎_}
 use mathlib.Core.List.{List, [], _∷_, _++_, reverse}
 use mathlib.Core.Option.{some}
-use Prim.Native.Nat.{ℕ, suc, _+_, _-_, _≤_, _<_, min}
+use Prim.Native.Nat.{ℕ, suc, _+_, _≤_, _<_, min}
 use lib.Dec.{eqb}
-use lib.ListN.{length, take, getD}
+use lib.ListN.{length, getD}
 use Rattle.definition.specs.Letters.{hamza, alefMadda, alefHamzaAbove, wawHamza, alefHamzaBelow, yehHamza, alef, teh, noon, waw, alefMaksura, yeh}
 use Rattle.definition.specs.Words.{Word, pick, endsWith}
 use Rattle.definition.specs.Tables.{«A_0», «A_4»}
@@ -15,7 +15,7 @@ use Rattle.definition.specs.Tries.{Failed}
 use Rattle.definition.specs.Kind.{kind}
 use Rattle.definition.specs.Normal.{normalise}
 use Rattle.definition.specs.Endings.{Cut, suffix, joined, endings}
-use Rattle.definition.specs.Fronts.{PrefixStep, prefixStep1, prefixStep2, prefixStep3aNoun, prefixStep3bNoun, prefixStep3Verb, prefixStep4Verb, prefix, Applied, frontRow, replacement}
+use Rattle.definition.specs.Fronts.{PrefixStep, prefixStep1, prefixStep2, prefixStep3aNoun, prefixStep3bNoun, prefixStep3Verb, prefixStep4Verb, prefix, Applied, at, frontRow, unreplaced}
 use Rattle.definition.specs.Stem.{chain, back, applied, front, head, without, run}
 
 -- ---- the back
@@ -35,13 +35,6 @@ CutInTurn n before [] = Unit {0}
 CutInTurn n before (c ∷ later) = CutFrom n before c × CutInTurn n (c ∷ before) later
 
 -- ---- the front
-
-abbrev pub at : PrefixStep → ℕ → Applied
-at s r = record { step = s; row = r }
-
--- the row but for as many last letters as its replacement has
-abbrev pub unreplaced : Applied → Word
-unreplaced m = take (length (frontRow m) - length (replacement m)) (frontRow m)
 
 -- The letters that a change puts into the front: with Step1 both letters of the row, the one taken and the head letter.
 unfoldable pub toFront : PrefixStep → Applied → Word

@@ -1,11 +1,11 @@
--- Words and what the definition gives for them: document 01's twelve, and worked examples for every step.
+-- Words and what the definition gives for them: document 01's twelve, and worked examples for every step that changes a word.
 use Prim.Native.Nat.{ℕ}
 use mathlib.Core.List.{List, [], _∷_}
 use Rattle.definition.specs.Letters.{hamza, alefHamzaAbove, wawHamza, alef, beh, tehMarbuta, teh, jeem, hah, khah, dal, reh, seen, kaf, lam, meem, noon, heh, waw, alefMaksura, yeh}
 use Rattle.definition.specs.Words.{Word}
 use Rattle.definition.specs.Kind.{Kind, OPEN, DEFINED, kind}
 use Rattle.definition.specs.Endings.{SuffixStep, verbStep1, verbStep2a, verbStep2b, verbStep2c, nounStep1b, nounStep2a, nounStep2b, nounStep2c1, nounStep2c2, nounStep3, Cut}
-use Rattle.definition.specs.Fronts.{PrefixStep, prefixStep1, prefixStep2, prefixStep3aNoun, prefixStep3bNoun, prefixStep3Verb, prefixStep4Verb, Applied}
+use Rattle.definition.specs.Fronts.{prefixStep1, prefixStep2, prefixStep3aNoun, prefixStep3bNoun, prefixStep3Verb, prefixStep4Verb, Applied, at}
 use Rattle.definition.specs.Stem.{stem, chain, applied}
 
 pub record Sample : Type 0 where
@@ -50,9 +50,6 @@ worked w k cs ms s = record { word = w; kind = k; chain = cs; applied = ms; stem
 
 abbrev pub row : SuffixStep → ℕ → Cut
 row s r = record { step = s; row = r }
-
-abbrev pub at : PrefixStep → ℕ → Applied
-at s r = record { step = s; row = r }
 
 -- an example's word worked by the definition
 unfoldable pub work : Worked → Worked

@@ -47,11 +47,18 @@ pub record Applied : Type 0 where
   pub step : PrefixStep
   pub row : ℕ
 
+abbrev pub at : PrefixStep → ℕ → Applied
+at s r = record { step = s; row = r }
+
 unfoldable pub frontRow : Applied → Word
 frontRow m = rowAt (prefix (m .step) .table) (m .row) .letters
 
 unfoldable pub replacement : Applied → Word
 replacement m = getD (replacements (m .step)) (rowAt (prefix (m .step) .table) (m .row) .class - 1) []
+
+-- the row but for as many last letters as its replacement has
+abbrev pub unreplaced : Applied → Word
+unreplaced m = take (length (frontRow m) - length (replacement m)) (frontRow m)
 
 -- The text is head, passed and rest, and the cursor stands before rest.
 -- front: the letters taken, and the head letter. applied: the steps, the last one foremost.
@@ -78,7 +85,7 @@ headed f m = record {
 -- Any other step takes its row, but for as many last letters as its replacement has; the cursor then stands behind the replacement.
 abbrev pub passing : Fronting → Applied → Fronting
 passing f m = record {
-  front = f .front ++ take (length (frontRow m) - length (replacement m)) (frontRow m);
+  front = f .front ++ unreplaced m;
   head = f .head;
   passed = f .passed ++ replacement m;
   rest = drop (length (frontRow m)) (f .rest);
@@ -99,7 +106,7 @@ beginsWithAny w (k ∷ ks) = pick (beginsWith w k) true (beginsWithAny w ks)
 
 abbrev pub applyBy : PrefixStep → Fronting → Option ℕ → Try Fronting
 applyBy s f none = failed f
-applyBy s f (some r) = done (change s f (record { step = s; row = r }))
+applyBy s f (some r) = done (change s f (at s r))
 
 abbrev pub applyUnless : Bool → PrefixStep → Fronting → Try Fronting
 applyUnless true s f = failed f

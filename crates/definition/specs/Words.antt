@@ -1,4 +1,4 @@
--- A word is a list of letters, and a letter is a Unicode scalar value. What stands at the front and at the end of a word.
+-- A word is a list of letters, each a number. What stands at the front and at the end of a word.
 use Prim.Native.Nat.{ℕ, _-_}
 use mathlib.Core.Bool.{Bool, true, false}
 use mathlib.Core.List.{List, [], _∷_}
@@ -15,6 +15,10 @@ pick false a b = b
 abbrev pub both : Bool → Bool → Bool
 both true b = b
 both false b = false
+
+abbrev pub all {ℓ} : {A : Type ℓ} → (A → Bool) → List A → Bool
+all p [] = true
+all p (x ∷ xs) = both (p x) (all p xs)
 
 unfoldable pub same : Word → Word → Bool
 same [] [] = true

@@ -1,18 +1,18 @@
 -- Two steps whose rows cannot both be ends of one word never both take a row. Assumes nothing.
-use mathlib.Core.Path.{_≡_, refl, sym, ap, _∙_}
-use mathlib.Core.Bool.{Bool, true, false, false≢true, not}
+use mathlib.Core.Path.{_≡_, refl, ap}
+use mathlib.Core.Bool.{Bool, true, not}
 use mathlib.Core.Logic.{_⊎_, inl, inr}
 use mathlib.Core.Option.{Option, none, some}
 use Prim.Native.Nat.{ℕ}
 use lib.ListN.{length}
 use borrow.Author.Tests.{not-true}
-use Rattle.definition.specs.Words.{Word, both, same, endsWith}
+use Rattle.definition.specs.Words.{Word, all, endsWith}
 use Rattle.definition.specs.Tables.{Row, Table}
 use Rattle.definition.specs.Search.{rowAt, taken}
 use Rattle.definition.specs.Tries.{done, failed}
-use Rattle.definition.specs.Endings.{SuffixStep, suffix, Cutting, Cut, cutOff, cutBy, cut}
+use Rattle.definition.specs.Endings.{SuffixStep, suffix, Cutting, cutOff, cutBy, cut}
 use Rattle.definition.proofs.Match.{clash}
-use Rattle.definition.proofs.Found.{taken-some, all, all-at}
+use Rattle.definition.proofs.Found.{taken-some, all-at}
 use Rattle.definition.proofs.Cover.{compatible, fits}
 use Rattle.definition.proofs.Step1a.{Idle}
 use Rattle.order.proofs.Exchange.{Fails, Clean}

@@ -3,18 +3,16 @@ use mathlib.Core.Path.{_≡_, refl, sym, ap, _∙_, subst}
 use mathlib.Core.Bool.{true}
 use mathlib.Core.Logic.{_⊎_, inl, inr}
 use mathlib.Core.List.{List, [], _∷_}
-use mathlib.Core.Option.{Option, none, some}
 use Prim.Native.Nat.{ℕ}
 use lib.ListN.{length}
-use Rattle.definition.specs.Words.{Word, same, endsWith}
+use Rattle.definition.specs.Words.{Word, all, same, endsWith}
 use Rattle.definition.specs.Tables.{«A_10», «A_11», «A_12», «A_13», «A_15», «A_17», «A_18», «A_19», «A_20»}
-use Rattle.definition.specs.Search.{longer, longest, taken}
+use Rattle.definition.specs.Search.{longer, longest}
 use Rattle.definition.specs.Tries.{Step, Try, done, failed, nothing, andThen, orElse, _thenTry_, firstOf, again}
 use Rattle.definition.specs.Kind.{Kind, OPEN, DEFINED, ifOpen}
 use Rattle.definition.specs.Endings.{SuffixStep, verbStep1, verbStep2a, verbStep2b, verbStep2c, nounStep1a, nounStep1b, nounStep2a, nounStep2b, nounStep2c1, nounStep2c2, nounStep3, suffix, Cutting, cut, verb}
-use Rattle.definition.proofs.Found.{all}
 use Rattle.definition.proofs.Triples.{Ends}
-use Rattle.definition.proofs.Step1a.{Idle, coveredRow, covered-1a, idle-by, Spared, Untaken, verb-ends}
+use Rattle.definition.proofs.Step1a.{coveredRow, covered-1a, idle-by, Spared, Untaken, verb-ends}
 use Rattle.order.specs.Order.{Pair, pair, verbs, verbSequel, nouns, step1aSequel, step1bSequel, unexchanged, exchanged, ordered, inTurn, verbBy, nounBy, maqsura, endingsBy}
 use Rattle.order.proofs.Exchange.{Succeeds, Fails, Clean, first-fails, first-succeeds, one-fails, exchange, last-succeeds, or-succeeds, again-succeeds, then-fails, then-clean, open-clean, open-fails}
 use Rattle.order.proofs.Apart.{apart, cut-idle, cut-clean, one-idle}

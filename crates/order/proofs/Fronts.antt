@@ -10,17 +10,16 @@ use lib.Dec.{leb}
 use lib.ListN.{length, take, drop, getD}
 use lib.Seq.{take-take}
 use borrow.Author.Tests.{leb-true, leb-false, not-true}
-use Rattle.definition.specs.Words.{Word, pick, same, beginsWith}
-use Rattle.definition.specs.Tables.{Row, Table, «A_6», «A_7», «A_8», «A_9»}
+use Rattle.definition.specs.Words.{Word, all, same, beginsWith}
+use Rattle.definition.specs.Tables.{Row, «A_6», «A_7», «A_8», «A_9»}
 use Rattle.definition.specs.Search.{rowAt, taken}
-use Rattle.definition.specs.Tries.{Step, Try, done, failed, after, nothing, orElse, andThen, _thenTry_, firstOf, attempt}
+use Rattle.definition.specs.Tries.{Step, Try, done, failed, after, orElse, _thenTry_, firstOf, attempt}
 use Rattle.definition.specs.Kind.{Kind, OPEN, DEFINED, ifOpen}
-use Rattle.definition.specs.Fronts.{PrefixStep, prefixStep1, prefixStep2, prefixStep3aNoun, prefixStep3bNoun, prefixStep3Verb, prefixStep4Verb, prefix, replacements, notAt, Applied, frontRow, replacement, Fronting, text, headed, passing, change, beginsWithAny, applyBy, applyUnless, apply, started}
-use Rattle.definition.proofs.Match.{by, clash, same-eq, same-refl, begins-split, begins-of}
-use Rattle.definition.proofs.Found.{Taken, taken-some, all, all-at}
-use Rattle.definition.proofs.Cover.{either, either-right, either-not}
-use Rattle.order.specs.Order.{Pair, pair, thirds, unexchanged, exchanged, ordered, inTurn, back, backIfFailed, fromHere, prefixStepsBy}
-use Rattle.order.proofs.Exchange.{Succeeds, Fails, Clean, first-fails, first-succeeds, one-fails, exchange}
+use Rattle.definition.specs.Fronts.{PrefixStep, prefixStep1, prefixStep2, prefixStep3aNoun, prefixStep3bNoun, prefixStep3Verb, prefixStep4Verb, prefix, replacements, notAt, frontRow, replacement, Fronting, text, change, beginsWithAny, applyBy, applyUnless, apply, started}
+use Rattle.definition.proofs.Match.{either, either-right, either-not, by, clash, same-eq, same-refl, begins-split, begins-of}
+use Rattle.definition.proofs.Found.{Taken, taken-some, all-at}
+use Rattle.order.specs.Order.{pair, thirds, unexchanged, exchanged, ordered, inTurn, back, backIfFailed, fromHere, prefixStepsBy}
+use Rattle.order.proofs.Exchange.{Succeeds, Fails, Clean, first-fails, first-succeeds, one-fails}
 
 -- ---- two keys in front of one word
 begins-shorter : (w key k : Word) → beginsWith w key ≡ true → beginsWith w k ≡ true → length k ≤ length key → beginsWith key k ≡ true

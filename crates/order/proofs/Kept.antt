@@ -7,7 +7,6 @@ use Rattle.definition.specs.Kind.{Kind, kind}
 use Rattle.definition.specs.Normal.{normalise}
 use Rattle.definition.specs.Endings.{Cutting}
 use Rattle.definition.specs.Fronts.{Fronting, text, started}
-use Rattle.definition.specs.Stem.{stem}
 use Rattle.order.specs.Order.{Pair, pair, verbs, verbSequel, nouns, step1aSequel, step1bSequel, thirds, unexchanged, ordered, allOf, verbBy, nounBy, endingsBy, prefixStepsBy, finishBy, stemBy}
 use Rattle.order.specs.Settled.{Unshown}
 use Rattle.order.proofs.Endings.{verbs-0, verbSequel-0, nouns-0, nouns-1, nouns-2, nouns-3, step1aSequel-any, step1bSequel-0}

@@ -1,15 +1,13 @@
 -- With nothing exchanged, the stem is the definition's. Assumes nothing.
 use mathlib.Core.Path.{_≡_, refl, sym, ap, _∙_}
-use mathlib.Core.Bool.{Bool, true, false}
 use mathlib.Core.Logic.{inl, inr}
 use mathlib.Core.List.{List, [], _∷_, map}
 use Prim.Native.Nat.{ℕ}
 use native.Mathlib.Omega.{arith}
 use lib.Dec.{leb}
-use borrow.Author.Tests.{leb-true, leb-false}
-use Rattle.definition.specs.Letters.{hamza, alefMadda, yehHamza, alefMaksura}
-use Rattle.definition.specs.Words.{Word, pick, both, endsWith}
-use Rattle.definition.specs.Tries.{Step, Try, done, failed, after, orElse, andThen, _thenTry_, firstOf, attempt}
+use Rattle.definition.specs.Letters.{alefMadda, yehHamza, alefMaksura}
+use Rattle.definition.specs.Words.{Word, both, endsWith}
+use Rattle.definition.specs.Tries.{Step, Try, done, failed, after, orElse, _thenTry_, firstOf, attempt}
 use Rattle.definition.specs.Kind.{Kind, ifOpen, kind}
 use Rattle.definition.specs.Normal.{normalise}
 use Rattle.definition.specs.Endings.{Cutting, verb, noun, endings, suffixAllAlefMaqsura, maqsuraIfFailed}
@@ -19,9 +17,9 @@ use Rattle.definition.specs.Stem.{cutting, fronting, stemOf, stem}
 use Rattle.definition.proofs.Match.{by}
 use Rattle.definition.proofs.Stays.{other-stays, maqsura-stays}
 use Rattle.definition.proofs.Changed.{Outside, outside}
-use Rattle.order.specs.Order.{Pair, pair, unexchanged, exchanged, ordered, inTurn, allOf, fromHere, backIfFailed, maqsura, lastLetter, allLetters, verbBy, nounBy, endingsBy, prefixStepsBy, finishBy, stemBy}
+use Rattle.order.specs.Order.{unexchanged, ordered, inTurn, allOf, fromHere, backIfFailed, maqsura, lastLetter, allLetters, verbBy, nounBy, endingsBy, prefixStepsBy, finishBy, stemBy}
 use Rattle.order.proofs.Exchange.{Clean, first-fails, first-succeeds}
-use Rattle.order.proofs.Fronts.{third-from, bare, verb-fronts, apply-clean, here-clean, here-fails}
+use Rattle.order.proofs.Fronts.{third-from, bare, verb-fronts, apply-clean, here-fails}
 
 -- ---- item 3
 maqsura-step : (x : Cutting) → after (firstOf (maqsura ∷ []) x) .text ≡ suffixAllAlefMaqsura (x .text)

@@ -42,7 +42,7 @@ back-same : (u w : Word) → begins (reverse u) (reverse w) ≡ endsWith w u
 back-same u w = begins-same (reverse u) (reverse w) ∙ ends-reverse w u
 
 -- ---- the code's rows as a table
-pub rows-length : (ws : List (List ℕ)) (cs ns : List ℕ) → length cs ≡ length ws → length (rowsOf ws ns cs) ≡ length ws
+rows-length : (ws : List (List ℕ)) (cs ns : List ℕ) → length cs ≡ length ws → length (rowsOf ws ns cs) ≡ length ws
 rows-length [] cs ns e = refl
 rows-length (w ∷ ws) [] ns e = absurd (let z : 0 ≡ suc (length ws) = e in omega arith)
 rows-length (w ∷ ws) (c ∷ cs) [] e = ap suc (rows-length ws cs [] (let z : suc (length cs) ≡ suc (length ws) = e in omega arith))

@@ -25,7 +25,7 @@ module _ (out out₀ : List ℕ) (at : ℕ) (s : List ℕ) (e : out ≡ paste ou
   pub whole-length : length out ≡ length out₀
   whole-length = ap length whole ∙ length-paste out₀ at s (length s) h (omega arith)
 
-  pub whole-front : take (at + length s) out ≡ take at out₀ ++ s
+  whole-front : take (at + length s) out ≡ take at out₀ ++ s
   whole-front =
       ap (take (at + length s)) whole
       ∙ take-paste out₀ at s (length s) (omega arith) (omega arith)

@@ -28,7 +28,7 @@ abbrev pub left : Bool → ℕ
 left true = 0
 left false = 1
 
--- THE INVARIANT at the loop's head
+-- the invariant at the loop's head
 pub record Half (us : List (List ℕ)) (s : List ℕ) (i j ci cj : ℕ) (f : Bool) : Type 0 where
   pub apart : i < j
   pub inside : j ≤ length us
@@ -76,7 +76,7 @@ module _ (us : List (List ℕ)) (s : List ℕ) (rise : (a b : ℕ) → a < b →
 
   module _ {i j ci cj : ℕ} {f : Bool} (H : Half us s i j ci cj f) where
     -- the row in the middle shares what the two ends share
-    pub skip : (k m : ℕ) → i ≤ k → k < j → m ≤ ci → m ≤ cj → m ≤ lcp (getD us k []) s
+    skip : (k m : ℕ) → i ≤ k → k < j → m ≤ ci → m ≤ cj → m ≤ lcp (getD us k []) s
     unfolding K
     skip k m a b p q =
         ⊎-elim (λ l. nought (omega (arith, l .1)))
@@ -89,13 +89,13 @@ module _ (us : List (List ℕ)) (s : List ℕ) (rise : (a b : ℕ) → a < b →
         nought z = omega arith
 
     module _ (k : ℕ) (e : k ≡ i + (j - i) / 2) where
-      pub mid-low : i ≤ k
+      mid-low : i ≤ k
       mid-low = omega arith
 
-      pub mid-high : k < j
+      mid-high : k < j
       mid-high = omega (arith, H .apart)
 
-      pub cut-high : (c : ℕ) → before s (getD us k []) ≡ true → c ≡ lcp (getD us k []) s → Cut us s (j - i) i k ci c f
+      cut-high : (c : ℕ) → before s (getD us k []) ≡ true → c ≡ lcp (getD us k []) s → Cut us s (j - i) i k ci c f
       cut-high c b q = record {
         order = mid-low;
         within = omega (arith, H .apart, H .inside);
@@ -108,7 +108,7 @@ module _ (us : List (List ℕ)) (s : List ℕ) (rise : (a b : ℕ) → a < b →
         narrow = omega (arith, H .apart);
       }
 
-      pub cut-low : (c : ℕ) → before s (getD us k []) ≡ false → c ≡ lcp (getD us k []) s → Cut us s (j - i) k j c cj f
+      cut-low : (c : ℕ) → before s (getD us k []) ≡ false → c ≡ lcp (getD us k []) s → Cut us s (j - i) k j c cj f
       cut-low c b q = record {
         order = omega (arith, mid-high);
         within = omega (arith, mid-high, H .inside);
@@ -134,9 +134,9 @@ recast {us} {s} {d} {i} {j} {ci} {cj} {i′} {j′} {ci′} {cj′} {f} a b p q 
     (subst (λ (n : ℕ). Cut us s d i′ j′ n cj f) (sym p)
     (subst (λ (n : ℕ). Cut us s d i′ j′ ci′ n f) (sym q) C)))
 
--- ONE TURN OF THE LOOP, at row k in the middle
+-- one turn of the loop, at row k in the middle
 module _ {us : List (List ℕ)} {ns s : List ℕ} (R : Rows us ns) {i j ci cj : ℕ} {f : Bool} (H : Half us s i j ci cj f) where
-  abbrev pub middle : ℕ
+  abbrev middle : ℕ
   middle = i + (j - i) / 2
 
   pub in-rows : middle < length us

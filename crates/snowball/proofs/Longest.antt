@@ -15,10 +15,10 @@ use Rattle.snowball.proofs.Order.{bool-case, Begins, lcp-right, lcp-sym
 use Rattle.snowball.proofs.Table.{Table}
 
 -- what is known of row i where the walk stands at it: every row that is in the text is the beginning of row i, and of those beginnings the ones of at most q bytes are in the text and no others
-pub record Ready (us : List (List ℕ)) (s : List ℕ) (i q : ℕ) : Type 0 where
-  pub covers : (k : ℕ) → k < length us → Begins (getD us k []) s → Begins (getD us k []) (getD us i [])
-  pub yes : (k : ℕ) → k < length us → Begins (getD us k []) (getD us i []) → length (getD us k []) ≤ q → Begins (getD us k []) s
-  pub not-in : (k : ℕ) → k < length us → Begins (getD us k []) (getD us i []) → q < length (getD us k []) → Begins (getD us k []) s → ⊥
+record Ready (us : List (List ℕ)) (s : List ℕ) (i q : ℕ) : Type 0 where
+  covers : (k : ℕ) → k < length us → Begins (getD us k []) s → Begins (getD us k []) (getD us i [])
+  yes : (k : ℕ) → k < length us → Begins (getD us k []) (getD us i []) → length (getD us k []) ≤ q → Begins (getD us k []) s
+  not-in : (k : ℕ) → k < length us → Begins (getD us k []) (getD us i []) → q < length (getD us k []) → Begins (getD us k []) s → ⊥
 
 -- row r is the longest that is in the text, and the first of that length
 pub record Longest (us : List (List ℕ)) (s : List ℕ) (r : ℕ) : Type 0 where
@@ -77,7 +77,7 @@ module _ {us : List (List ℕ)} {ns js : List ℕ} (t : Table us ns js) (s : Lis
       not-in = λ k h m o p. let z : length (K k) ≤ lcp (K i) s = ultra (length (K k)) (K i) (K k) s (flip (length (K k)) (K k) (K i) m) p in omega arith;
     }
 
-  pub ready : (i q : ℕ) → Halved us s i q → Ready us s i q
+  ready : (i q : ℕ) → Halved us s i q → Ready us s i q
   ready i q H =
       ⊎-elim (λ a. subst (λ (x : ℕ). Ready us s x q) (sym (a .0)) (ready-none q (a .1) (a .2)))
       (λ a. ready-row i q (H .in-table) (a .0) (a .1) (a .2))
@@ -128,7 +128,7 @@ module _ {us : List (List ℕ)} {ns js : List ℕ} (t : Table us ns js) (s : Lis
         not-in = λ k kl b o m. R .not-in k kl (up k b) o m;
       }
 
-  pub walked : (i q r : ℕ) → i < length us → Ready us s i q → Walked ns js q i r → Longest us s r ⊎ ((r ≡ length ns) × Nothing us s)
+  walked : (i q r : ℕ) → i < length us → Ready us s i q → Walked ns js q i r → Longest us s r ⊎ ((r ≡ length ns) × Nothing us s)
   walked i q r l R (hit h) = inl (hit-longest i q l R (omega (arith, t .rows .size i l)))
   walked i q r l R (out h e) = inr (refl, out-nothing i q l R (omega (arith, t .rows .size i l)) e)
   walked i q r l R (on h ne w) = walked (getD js i 0) q r (omega (arith, t .smaller i l ne)) (on-ready i q l R (omega (arith, t .rows .size i l)) ne) w

@@ -1,4 +1,4 @@
--- What is shown of the searches and the environment beside the functions' contracts, each closed by the file that proves it. Assumes nothing.
+-- What is shown of the searches beside the functions' contracts, each closed by the file that proves it. Assumes nothing.
 use mathlib.Core.Path.{_≡_}
 use mathlib.Core.List.{List}
 use Prim.Native.Nat.{ℕ}

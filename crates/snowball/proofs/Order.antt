@@ -142,7 +142,7 @@ not-before (x ∷ s) (y ∷ u) h =
     lt-of e l = ⊎-elim (λ t. ltb-true y x t) (λ t. absurd (e (let m : x ≤ y = ltb-false y x t in omega arith))) (bool-case (ltb y x))
 
 -- past q bytes that they share, the rest decides
-pub peel-lcp : (q : ℕ) (u s : List ℕ) → q ≤ lcp u s → lcp u s ≡ q + lcp (drop q u) (drop q s)
+peel-lcp : (q : ℕ) (u s : List ℕ) → q ≤ lcp u s → lcp u s ≡ q + lcp (drop q u) (drop q s)
 unfolding lcp
 peel-lcp zero u s h = sym (zero-add (lcp u s))
 peel-lcp (suc q) [] s h = absurd (not-suc-le-zero h)
@@ -151,7 +151,7 @@ peel-lcp (suc q) (x ∷ u) (y ∷ s) h =
     let e : (x ≡ y) × (q ≤ lcp u s) = lcp-suc q x y u s h in
     lcp-same x y u s (e .0) ∙ ap suc (peel-lcp q u s (e .1)) ∙ sym (suc-add q (lcp (drop q u) (drop q s)))
 
-pub peel-before : (q : ℕ) (u s : List ℕ) → q ≤ lcp u s → before s u ≡ before (drop q s) (drop q u)
+peel-before : (q : ℕ) (u s : List ℕ) → q ≤ lcp u s → before s u ≡ before (drop q s) (drop q u)
 unfolding lcp
 peel-before zero u s h = refl
 peel-before (suc q) [] s h = absurd (not-suc-le-zero h)
@@ -179,7 +179,7 @@ true-begins (x ∷ u) (y ∷ s) h =
     let e : (x ≡ y) × (length u ≤ lcp u s) = lcp-suc (length u) x y u s h in
     ap (λ (b : Bool). both b (begins u s)) (eq-eqb x y (e .0)) ∙ true-begins u s (e .1)
 
--- WHAT A COMPARISON FINDS at q, where q bytes are the same
+-- what a comparison finds at q, where q bytes are the same
 module _ (q : ℕ) (u s : List ℕ) (h : q ≤ lcp u s) where
   pub all-the-row : q ≡ length u → (lcp u s ≡ q) × (before s u ≡ false)
   all-the-row e = (let l : lcp u s ≤ length u = lcp-left u s in omega arith, ⊎-elim (λ t. absurd (not-begin s u t (omega arith))) (λ t. t) (bool-case (before s u)))

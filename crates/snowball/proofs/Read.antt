@@ -19,7 +19,7 @@ module _ (t : List ℕ) (from to : ℕ) (h : from ≤ to) (k : to ≤ length t) 
   between-at q m = getD-take (to - from) (drop from t) q 0 m ∙ getD-drop from t q 0
 
 -- the byte at q of a list from its end
-pub getD-reverse : (l : List ℕ) (q p : ℕ) → q + p + 1 ≡ length l → getD (reverse l) q 0 ≡ getD l p 0
+getD-reverse : (l : List ℕ) (q p : ℕ) → q + p + 1 ≡ length l → getD (reverse l) q 0 ≡ getD l p 0
 getD-reverse [] q p e = absurd (let z : q + p + 1 ≡ 0 = e in omega arith)
 getD-reverse (x ∷ l) q zero e =
     let z : q + 0 + 1 ≡ suc (length l) = e in

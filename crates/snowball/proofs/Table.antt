@@ -7,8 +7,8 @@ use native.Mathlib.Nat.{le-of-suc-le-suc, not-suc-le-zero, add-zero, zero-add, a
 use lib.ListN.{length, getD}
 use lib.Dec.{T, leb, ltb, eqb, leb→le, ltb→lt, eqb→eq}
 use borrow.Author.Tests.{lt-ltb, eq-eqb, ne-eqb}
-use Rattle.definition.specs.Words.{pick, both}
-use Rattle.snowball.specs.Rows.{before, begins, all, rising, proper, none, linkIs, linked, sized, ordered, wellFormed}
+use Rattle.definition.specs.Words.{pick, both, all}
+use Rattle.snowball.specs.Rows.{before, begins, rising, proper, none, linkIs, linked, sized, ordered, wellFormed}
 use Rattle.snowball.proofs.Order.{Begins, begins-true, true-begins}
 
 both-left : (a b : Bool) → T (both a b) → T a

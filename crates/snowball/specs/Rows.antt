@@ -4,7 +4,7 @@ use mathlib.Core.Bool.{Bool, true, false, not}
 use mathlib.Core.List.{List, [], _∷_, reverse}
 use lib.ListN.{length, take, getD}
 use lib.Dec.{leb, ltb, eqb}
-use Rattle.definition.specs.Words.{Word, pick, both}
+use Rattle.definition.specs.Words.{Word, pick, both, all}
 use Rattle.definition.specs.Tables.{Row, Table}
 use Rattle.utf8.specs.Utf8.{encode}
 
@@ -21,10 +21,6 @@ keysBack (w ∷ ws) [] = [] ∷ keysBack ws []
 keysBack (w ∷ ws) (n ∷ ns) = reverse (take n w) ∷ keysBack ws ns
 
 -- ---- the test: keys rise, lengths and links are right
-
-abbrev pub all : (List ℕ → Bool) → List (List ℕ) → Bool
-all f [] = true
-all f (u ∷ us) = both (f u) (all f us)
 
 -- u comes before s in the order of a dictionary
 abbrev pub before : List ℕ → List ℕ → Bool

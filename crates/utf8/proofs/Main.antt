@@ -1,14 +1,15 @@
 -- What is shown of UTF-8: the main theorems of this crate, each closed by the file that proves it. Assumes nothing.
 use mathlib.Core.Path.{_≡_}
-use mathlib.Core.Bool.{true}
-use mathlib.Core.List.{List}
+use mathlib.Core.Bool.{true, not}
+use mathlib.Core.List.{List, [], _∷_}
 use mathlib.Core.Option.{some}
 use Prim.Native.Nat.{ℕ}
-use Rattle.definition.specs.Words.{Word, beginsWith, endsWith}
+use Rattle.definition.specs.Words.{Word, all, beginsWith, endsWith}
 use Rattle.utf8.specs.Utf8.{Scalars, encode, decode, wellFormed}
-use Rattle.utf8.proofs.Utf8.{decode-encode}
+use Rattle.utf8.proofs.Encoding.{decode-encode}
 use Rattle.utf8.proofs.Text.{sound, well-formed-text, text-well-formed, encode-injective}
 use Rattle.utf8.proofs.Matches.{front-bytes, end-bytes}
+use Rattle.utf8.proofs.Samples.{accepted, refused, edges, one-letter}
 
 -- every list of scalar values decodes from its encoding, and its encoding is well formed
 pub main-decodes : (cs : List ℕ) → Scalars cs → decode (encode cs) ≡ some cs
@@ -33,3 +34,11 @@ main-front = front-bytes
 
 pub main-end : (w key : Word) → Scalars w → Scalars key → endsWith (encode w) (encode key) ≡ endsWith w key
 main-end = end-bytes
+
+-- the edges of well-formedness: what is accepted, and what is refused
+pub main-edges : (all wellFormed accepted ≡ true) × (all (λ bs. not (wellFormed bs)) refused ≡ true)
+main-edges = edges
+
+-- one letter encoded, and one decoded
+pub main-letters : (encode (0xFEFB ∷ []) ≡ 0xEF ∷ 0xBB ∷ 0xBB ∷ []) × (decode (0xD8 ∷ 0xA7 ∷ []) ≡ some (0x627 ∷ []))
+main-letters = one-letter

@@ -2,7 +2,7 @@
 use mathlib.Core.Path.{_≡_, refl, sym, ap, _∙_, subst}
 use Prim.Native.Nat.{ℕ, zero, suc, _+_, _-_, _≤_, _<_}
 use mathlib.Core.Bool.{true, false}
-use mathlib.Core.Logic.{_⊎_, ⊎-elim}
+use mathlib.Core.Logic.{⊎-elim}
 use mathlib.Core.List.{List, [], _∷_, _++_, append-assoc}
 use native.Mathlib.Omega.{arith}
 use native.Mathlib.Numerals.{add-one}
@@ -31,11 +31,11 @@ drop-size cs n =
 pub size-append : (u v : List ℕ) → size (u ++ v) ≡ size u + size v
 size-append u v = ap length (encode-append u v) ∙ length-append (encode u) (encode v)
 
-pub size-one : (c : ℕ) → size (c ∷ []) ≡ length (encode1 c)
+size-one : (c : ℕ) → size (c ∷ []) ≡ length (encode1 c)
 size-one c = ap length (encode-one c)
 
--- the place behind the character at n
-pub size-next : (cs : List ℕ) (n : ℕ) → n < length cs → size (take (n + 1) cs) ≡ size (take n cs) + length (encode1 (getD cs n 0))
+-- the place behind the letter at n
+size-next : (cs : List ℕ) (n : ℕ) → n < length cs → size (take (n + 1) cs) ≡ size (take n cs) + length (encode1 (getD cs n 0))
 size-next cs n h =
     ap size (ap (λ (k : ℕ). take k cs) (add-one n) ∙ take-suc cs n 0 h)
     ∙ size-append (take n cs) (getD cs n 0 ∷ [])
@@ -52,13 +52,7 @@ pub size-strict : (cs : List ℕ) (m n : ℕ) → m < n → n ≤ length cs → 
 size-strict cs m n h k =
     omega (arith, size-next cs m (omega arith), encode1-pos (getD cs m 0), size-mono cs (m + 1) n (omega arith))
 
-pub place-unique : (cs : List ℕ) (m n i : ℕ) → At cs m i → At cs n i → m ≡ n
-place-unique cs m n i p q =
-    by-le m n
-    (λ h. by-le n m (λ g. omega arith) (λ g. absurd (omega (arith, size-strict cs m n g (q .0), p .1, q .1))))
-    (λ h. absurd (omega (arith, size-strict cs n m h (p .0), p .1, q .1)))
-
--- ---- where characters start
+-- ---- where letters start
 
 starts-lead : (b : ℕ) → Lead b → starts b ≡ true
 starts-lead b l =
@@ -81,7 +75,7 @@ module _ (cs : List ℕ) (n : ℕ) (h : n < length cs) where
       ∙ ap (λ (x : List ℕ). encode (take n cs) ++ encode x) (drop-cons cs n 0 h)
       ∙ sym (append-assoc (encode (take n cs)) (encode1 (getD cs n 0)) (encode (drop (suc n) cs)))
 
-  -- at each character's place one starts
+  -- at each letter's place one starts
   pub start-at : starts (getD (encode cs) (size (take n cs)) 0) ≡ true
   start-at =
       let s = shape (getD cs n 0) in
@@ -91,8 +85,8 @@ module _ (cs : List ℕ) (n : ℕ) (h : n < length cs) where
       ∙ ap starts (getD-append-seam (encode (take n cs)) (s .b) (s .t ++ encode (drop (suc n) cs)) 0)
       ∙ starts-lead (s .b) (s .lead)
 
-  -- and within a character none does
-  pub no-start-at : (k : ℕ) → size (take n cs) < k → k < size (take (n + 1) cs) → starts (getD (encode cs) k 0) ≡ false
+  -- and within a letter none does
+  no-start-at : (k : ℕ) → size (take n cs) < k → k < size (take (n + 1) cs) → starts (getD (encode cs) k 0) ≡ false
   no-start-at k p q =
       let s = shape (getD cs n 0) in
       let u = encode (take n cs) in
@@ -148,7 +142,7 @@ module _ (a cs : List ℕ) (len : ℕ) (e : take len a ≡ encode cs) (len-size 
             absurd (clash (f .there) (ap starts (same r m) ∙ no-start-at cs (n - 1) i r g (omega (arith, f .before, nx, size-next cs (n - 1) i))))),
       )
 
--- a text has as many characters as bytes that start one
+-- a text has as many letters as bytes that start one
 conts-none : (t : List ℕ) → Conts t → leads t ≡ 0
 conts-none [] c = refl
 conts-none (b ∷ t) c = rw (starts-cont b (c .0) (c .1)) (conts-none t (c .2))
@@ -161,11 +155,7 @@ leads-encode (c ∷ cs) =
     let one : leads (encode1 c) ≡ 1 = ap leads (s .is) ∙ rw (starts-lead (s .b) (s .lead)) (ap suc (conts-none (s .t) (s .conts))) in
     leads-append (encode1 c) (encode cs) ∙ omega (arith, one, leads-encode cs)
 
--- place 0 is byte 0, and only it
-pub zero-place : (cs : List ℕ) (n i : ℕ) → At cs n i → i ≡ 0 → n ≡ 0
-unfolding encode
-zero-place cs n i p z = place-unique cs n 0 0 (p .0, sym z ∙ p .1) (omega arith, refl)
-
+-- the first letter starts at byte 0
 pub zero-byte : (cs : List ℕ) (n i : ℕ) → At cs n i → n ≡ 0 → i ≡ 0
 unfolding encode
 zero-byte cs n i p z = p .1 ∙ ap (λ (k : ℕ). size (take k cs)) z

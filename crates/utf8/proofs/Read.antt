@@ -35,7 +35,7 @@ forget-filled zero a = refl
 forget-filled (suc k) a = refl
 
 -- a step of the state that decodes is one of the state that is kept
-pub forget-step : (s : State) (b : ℕ) → forget (step s b) ≡ nextOf (forget s) b
+forget-step : (s : State) (b : ℕ) → forget (step s b) ≡ nextOf (forget s) b
 unfolding step
 forget-step (whole c) b = refl
 forget-step (more k a lo hi) b =

@@ -1,4 +1,4 @@
--- Walks over bytes that look for the starts of characters. Assumes nothing.
+-- Walks over bytes that look for the starts of letters. Assumes nothing.
 use mathlib.Core.Path.{_≡_, refl, ap}
 use Prim.Native.Nat.{ℕ, _+_, _-_, _≤_, _<_}
 use mathlib.Core.Bool.{true, false}
@@ -12,7 +12,7 @@ use borrow.Author.Tests.{lt-ltb, le-ltb}
 use Rattle.utf8.specs.Places.{starts, leads}
 use Rattle.definition.proofs.Match.{by, by-le}
 
--- no character starts from lo up to, and not at, hi
+-- no letter starts from lo up to, and not at, hi
 abbrev pub NoStart : List ℕ → ℕ → ℕ → Type 0
 NoStart a lo hi = (k : ℕ) → lo < k → k < hi → starts (getD a k 0) ≡ false
 

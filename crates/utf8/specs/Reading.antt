@@ -1,4 +1,4 @@
--- What `well_formed` keeps of a reader's state: how many bytes of a character are missing, and the range of the next of them.
+-- What `well_formed` keeps of a reader's state: how many bytes of a letter are missing, and the range of the next of them.
 use Prim.Native.Nat.{ℕ, suc, _-_}
 use mathlib.Core.Bool.{Bool}
 use lib.Dec.{eqb, leb}
@@ -6,7 +6,7 @@ use Rattle.definition.specs.Words.{pick}
 use Rattle.utf8.specs.Utf8.{State, whole, more, bad, first}
 use Rattle.utf8.specs.declared.Reading.{Reading}
 
--- n bytes are missing, as after the second byte of a character
+-- n bytes are missing, as after the second byte of a letter
 abbrev pub left : ℕ → Reading
 left n = record { missing = n; lo = 0x80; hi = 0xBF }
 

@@ -1,5 +1,5 @@
 -- UTF-8 as the Unicode standard has it: the scalar values (D76), the encoding of one (Table 3-6), the well-formed byte sequences (Table 3-7).
--- A character is a ℕ, a text a list of them, and bytes are a list of ℕ. Assumes nothing: these are definitions.
+-- A letter is a ℕ, a text a list of them, and bytes are a list of ℕ. Assumes nothing: these are definitions.
 use Prim.Native.Nat.{ℕ, zero, suc, _+_, _-_, _*_, _/_, _%_, _≤_, _<_}
 use mathlib.Core.List.{List, [], _∷_, _++_}
 use mathlib.Core.Option.{Option, none, some, Option·map}
@@ -8,7 +8,7 @@ use mathlib.Core.Logic.{_⊎_}
 use lib.Dec.{ltb, leb, eqb}
 use Rattle.definition.specs.Words.{pick}
 
--- ---- characters to bytes
+-- ---- letters to bytes
 
 -- 0 to D7FF, and E000 to 10FFFF
 abbrev pub Scalar : ℕ → Type 0
@@ -29,9 +29,9 @@ unfoldable pub encode : List ℕ → List ℕ
 encode [] = []
 encode (c ∷ cs) = encode1 c ++ encode cs
 
--- ---- bytes to characters
+-- ---- bytes to letters
 
--- where a reader stands: past a whole character; where k + 1 more bytes are missing, the next of them lo to hi, with the bits a so far; past what is not well formed
+-- where a reader stands: past a whole letter; where k + 1 more bytes are missing, the next of them lo to hi, with the bits a so far; past what is not well formed
 pub data State : Type 0 where
   whole : ℕ → State
   more : ℕ → ℕ → ℕ → ℕ → State
@@ -57,7 +57,7 @@ step (whole c) b = first b
 step (more k a lo hi) b = pick (leb lo b) (pick (leb b hi) (filled k (a * 64 + (b - 0x80))) bad) bad
 step bad b = bad
 
--- the character that has just ended, in front of the others
+-- the letter that has just ended, in front of the others
 unfoldable pub onto : State → Option (List ℕ) → Option (List ℕ)
 onto (whole c) r = Option·map (λ (cs : List ℕ). c ∷ cs) r
 onto (more k a lo hi) r = r
@@ -71,7 +71,7 @@ run (whole c) (b ∷ bs) = onto (step (whole c) b) (run (step (whole c) b) bs)
 run (more k a lo hi) (b ∷ bs) = onto (step (more k a lo hi) b) (run (step (more k a lo hi) b) bs)
 run bad (b ∷ bs) = none
 
--- the characters of well-formed bytes, none of others
+-- the letters of well-formed bytes, none of others
 abbrev pub decode : List ℕ → Option (List ℕ)
 decode bs = run (whole 0) bs
 

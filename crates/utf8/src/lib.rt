@@ -3,7 +3,7 @@ ghost use Rattle.definition.specs.Words.{pick};
 ghost use Rattle.utf8.specs.Utf8.{first, wellFormed};
 ghost use Rattle.utf8.specs.Reading.{forget, nextOf, isWhole};
 
-// Where a reader of UTF-8 stands: how many bytes of a character are missing, the next of them lo to hi.
+// Where a reader of UTF-8 stands: how many bytes of a letter are missing, the next of them lo to hi.
 pub struct Reading {
     missing: u8,
     lo: u8,

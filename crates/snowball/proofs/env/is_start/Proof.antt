@@ -1,3 +1,4 @@
+-- `env::is_start` meets its contract. Assumes nothing.
 use Rattle.utf8.proofs.Starts.{starts-low, starts-high}
 use Rattle.snowball.proofs.env.is_start.Statement.{statement}
 use Rattle.snowball.proofs.env.is_start.Tie as tie

@@ -1,3 +1,4 @@
+-- `Env::create` meets its contract. Assumes nothing.
 use mathlib.Core.Path.{_≡_, refl}
 use Prim.Native.Nat.{ℕ}
 use native.Mathlib.Omega.{arith}

@@ -1,3 +1,4 @@
+-- `Env::slice_from` meets its contract. Assumes nothing.
 use native.Mathlib.Omega.{arith}
 use Rattle.snowball.proofs.Standing.{cursor-within}
 use Rattle.snowball.proofs.Slicing.{sliced}
