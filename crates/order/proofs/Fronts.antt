@@ -15,7 +15,7 @@ use Rattle.definition.specs.Tables.{Row, «A_6», «A_7», «A_8», «A_9»}
 use Rattle.definition.specs.Search.{rowAt, taken}
 use Rattle.definition.specs.Tries.{Step, Try, done, failed, after, orElse, _thenTry_, firstOf, attempt}
 use Rattle.definition.specs.Kind.{Kind, OPEN, DEFINED, ifOpen}
-use Rattle.definition.specs.Fronts.{PrefixStep, prefixStep1, prefixStep2, prefixStep3aNoun, prefixStep3bNoun, prefixStep3Verb, prefixStep4Verb, prefix, replacements, notAt, frontRow, replacement, Fronting, text, change, beginsWithAny, applyBy, applyUnless, apply, started}
+use Rattle.definition.specs.Fronts.{PrefixStep, prefixStep1, prefixStep2, prefixStep3aNoun, prefixStep3bNoun, prefixStep3Verb, prefixStep4Verb, prefix, replacements, notAt, at, frontRow, replacement, Fronting, text, change, beginsWithAny, applyBy, applyUnless, apply, started}
 use Rattle.definition.proofs.Match.{either, either-right, either-not, by, clash, same-eq, same-refl, begins-split, begins-of}
 use Rattle.definition.proofs.Found.{Taken, taken-some, all-at}
 use Rattle.order.specs.Order.{pair, thirds, unexchanged, exchanged, ordered, inTurn, back, backIfFailed, fromHere, prefixStepsBy}
@@ -54,7 +54,7 @@ record Takes (s : PrefixStep) (f : Fronting) : Type 0 where
   row : ℕ
   taken : Taken (beginsWith (f .rest)) (prefix s) (length (text f)) row
   allowed : beginsWithAny (f .rest) (notAt s) ≡ false
-  changes : apply s f ≡ done (change s f (record { step = s; row = row }))
+  changes : apply s f ≡ done (change s f (at s row))
 
 unless : (s : PrefixStep) (f : Fronting) (b : Bool) → beginsWithAny (f .rest) (notAt s) ≡ b → apply s f ≡ applyUnless b s f
 unfolding apply
@@ -80,7 +80,7 @@ pub apply-clean : (s : PrefixStep) (f : Fronting) → Clean (apply s) f
 apply-clean s f = go (takes s f)
   where
     go : Takes s f ⊎ Fails (apply s) f → Clean (apply s) f
-    go (inl t) = inl (change s f (record { step = s; row = t .row }), t .changes)
+    go (inl t) = inl (change s f (at s (t .row)), t .changes)
     go (inr p) = inr p
 
 -- ---- a cursor that goes back to where nothing was passed
@@ -151,7 +151,7 @@ no-new zero = refl
 no-new (suc zero) = refl
 no-new (suc (suc i)) = refl
 
-stays-bare : (s : PrefixStep) → ((f : Fronting) (r : ℕ) → f .passed ≡ [] → change s f (record { step = s; row = r }) .passed ≡ [])
+stays-bare : (s : PrefixStep) → ((f : Fronting) (r : ℕ) → f .passed ≡ [] → change s f (at s r) .passed ≡ [])
     → (f : Fronting) → f .passed ≡ [] → after (apply s f) .passed ≡ []
 stays-bare s h f e = go (takes s f)
   where
@@ -213,14 +213,14 @@ module _ (n : Word) where
   fails-behind p (inl t) = subst (λ (x : Try Fronting). Fails (apply prefixStep3bNoun) (back (after x))) (sym (t .changes)) (go (takes prefixStep3bNoun h))
     where
       h : Fronting
-      h = back (change prefixStep3Verb f (record { step = prefixStep3Verb; row = t .row }))
+      h = back (change prefixStep3Verb f (at prefixStep3Verb (t .row)))
 
       go : Takes prefixStep3bNoun h ⊎ Fails (apply prefixStep3bNoun) h → Fails (apply prefixStep3bNoun) h
       go (inr q) = q
       go (inl u) =
           let new : Word = getD (replacements prefixStep3Verb) (rowAt (prefix prefixStep3Verb .table) (t .row) .class - 1) [] in
           let m : Word = rowAt (prefix prefixStep3bNoun .table) (u .row) .letters in
-          let d : Word = drop (length (frontRow (record { step = prefixStep3Verb; row = t .row }))) (f .rest) in
+          let d : Word = drop (length (frontRow (at prefixStep3Verb (t .row)))) (f .rest) in
           let x = all-at _ (prefix prefixStep3bNoun .table) (all-at _ (prefix prefixStep3Verb .table) apart-new (t .row) (t .taken .inside)) (u .row) (u .taken .inside) in
           let y : beginsWith (h .rest) new ≡ true = begins-of (h .rest) new d (λ i. (bare n i ++ new) ++ d) in
           absurd (clash (front-fits (h .rest) new m y (u .taken .matches)) (not-true (together new m) x))
