@@ -68,8 +68,7 @@ pub fn stem(word: &[u8], out: &mut [u8]) -> Answer
     }
     if well_formed(word) {
         let env = Env::create(word);
-        let s = arabic::stem::stem(env);
-        let e = s.env;
+        let e = arabic::stem::stem(env);
         let limit = e.limit;
         return deliver(&e.current, limit, out);
     }

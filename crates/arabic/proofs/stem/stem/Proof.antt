@@ -29,7 +29,7 @@ returns c =
     let k = c .before .checked in
     λ w st.
     let e : kindOf (k .result .«b_is_defined») ≡ kind w = ap (λ (x : Context). kindOf (x .«b_is_defined»)) (k .ensures w (st .scalars) (st .bytes)) ∙ kind-back (kind w) in
-    (e, subst (λ (x : Kind). Stands (c .stem-of .result) (started (stemOf x (normalise w)))) e (c .stem-of .ensures w st))
+    subst (λ (x : Kind). Stands (c .stem-of .result) (started (stemOf x (normalise w)))) e (c .stem-of .ensures w st)
 
 pub stem-spec : {M : Type 1} → statement M
 stem-spec = tie.close (tie.spec checked-requires stem-of-requires returns)
