@@ -83,9 +83,6 @@ module _ (s : SuffixStep) (v : Cutting) (x : Env) (st : Ends x v) (place : ℕ) 
   abbrev t : Word
   t = v .text
 
-  search : Option ℕ
-  search = taken (endsWith t) (suffix s) (length t)
-
   -- the row that is taken
   module _ (r : ℕ) (q : taken (endsWith (v .text)) (suffix s) (length (v .text)) ≡ some r) where
     key : Word

@@ -182,9 +182,6 @@ any-next w k ks h = ap (λ (b : Bool). pick b true (beginsWithAny w ks)) h
 
 -- ---- the replacement
 module _ (s : PrefixStep) (w : Fronting) (x : Env) (st : Fronts x w) (f : Found) (tk : Takes s (text w) (w .rest) (x .cursor) f) where
-  abbrev search : Option ℕ
-  search = taken (beginsWith (w .rest)) (prefix s) (length (text w))
-
   -- the row that is taken
   module _ (r : ℕ) (q : taken (beginsWith (w .rest)) (prefix s) (length (text w)) ≡ some r) where
     abbrev key : Row
