@@ -16,7 +16,7 @@ ghost use Rattle.definition.specs.Finish.{finish};
 ghost use Rattle.definition.specs.Stem.{stemOf, stem};
 ghost use Rattle.snowball.specs.Chars.{started};
 ghost use Rattle.snowball.specs.Stands.{Stands};
-ghost use Rattle.arabic.specs.Nests.{kindOf};
+ghost use Rattle.arabic.specs.Kinds.{kindOf};
 
 // Item 3: the endings, backward from the end of the text. The cursor then goes back to the front.
 fn cut_endings(env: Env, b_is_defined: bool) -> Env

@@ -6,8 +6,7 @@ use Rattle.definition.specs.Stem.{stemOf, stem}
 use Rattle.snowball.specs.Chars.{started}
 use Rattle.snowball.specs.Stands.{Stands}
 use Rattle.arabic.specs.declared.context.Context.{Context}
-use Rattle.arabic.specs.Kinds.{flags}
-use Rattle.arabic.specs.Nests.{kindOf}
+use Rattle.arabic.specs.Kinds.{flags, kindOf}
 use Rattle.arabic.proofs.Standing.{spelt}
 use borrow.Author.Needs.{needs}
 use Rattle.arabic.proofs.stem.stem.Statement.{statement}
