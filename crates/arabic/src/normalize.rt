@@ -14,7 +14,7 @@ use snowball::among::find_among_b;
 use snowball::among::wide;
 use snowball::env::Env;
 ghost use mathlib.Core.Path.{_≡_};
-ghost use Prim.Native.Nat.{_+_, _-_, _*_, _/_, _%_, _<_, _≤_};
+ghost use Prim.Native.Nat.{_+_, _-_, _*_, _%_, _<_, _≤_};
 ghost use lib.ListN.{length, take, getD};
 ghost use Rattle.definition.specs.Words.{Word};
 ghost use Rattle.definition.specs.Normal.{given, normalise};
