@@ -1,4 +1,4 @@
--- `listed_class` reads the classes. Assumes nothing.
+-- `normalize::listed_class` meets its contract: it reads the classes. Assumes nothing.
 use Rattle.definition.specs.Tables.{«A_0»}
 use Rattle.arabic.specs.Rows.{classes}
 use borrow.Author.Needs.{needs}

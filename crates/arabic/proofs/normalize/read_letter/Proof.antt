@@ -1,4 +1,4 @@
--- `read_letter`: the letter is read off its bytes, whose number the first one tells. Assumes nothing.
+-- `normalize::read_letter` meets its contract: the letter is read off its bytes, whose number the first one tells. Assumes nothing.
 use native.Mathlib.Omega.{arith}
 use Rattle.arabic.proofs.Reading.{room-1, room-2, room-3, room-4, marks-2, marks-3, marks-4, reads-1, reads-2, reads-3, reads-4}
 use borrow.Author.Needs.{needs}
