@@ -149,7 +149,7 @@ module _ (x : Env) (w : Fronting) (st : Fronts x w) where
       ∙ drop-size (text w) (cursorOf w)
       ∙ ap encode rest-is
 
-  pub failed-as : (s : PrefixStep) → failed w ≡ apply s w → GivesFront (record { found = false; env = x }) (apply s w)
+  failed-as : (s : PrefixStep) → failed w ≡ apply s w → GivesFront (record { found = false; env = x }) (apply s w)
   failed-as s h = subst (GivesFront (record { found = false; env = x })) h (record { found = refl; env = st })
 
   -- a text at which the step fails
