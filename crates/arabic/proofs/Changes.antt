@@ -7,7 +7,7 @@ use Prim.Native.Nat.{ℕ, zero, suc, _≤_, _<_}
 use native.Mathlib.Omega.{arith}
 use lib.Dec.{eqb, leb}
 use lib.ListN.{length, getD}
-use borrow.Author.Tests.{eqb-true, leb-true, leb-false, le-leb, lt-leb, ne-eqb}
+use borrow.Author.Tests.{eqb-true, leb-true, leb-false, le-leb, lt-leb}
 use Rattle.utf8.specs.Utf8.{Scalar, Scalars, encode1, encode}
 use Rattle.definition.specs.Letters.{hamza, alef, waw, yeh}
 use Rattle.definition.specs.Words.{Word, pick, beginsWith, endsWith}

@@ -15,7 +15,7 @@ use Rattle.definition.specs.Endings.{SuffixStep, suffix, Cutting, ending, cutOf
 use Rattle.definition.proofs.Match.{ends-split}
 use Rattle.definition.proofs.Found.{taken-some}
 use Rattle.definition.proofs.Cutting.{row-some}
-use Rattle.utf8.specs.Utf8.{Scalars, encode}
+use Rattle.utf8.specs.Utf8.{Scalars, encode1, encode}
 use Rattle.utf8.specs.Places.{size}
 use Rattle.utf8.proofs.Text.{encode1-pos, encode-append, scalars-left}
 use Rattle.utf8.proofs.Places.{size-append}
@@ -50,19 +50,10 @@ module _ (e : Env) (v : Cutting) (st : Ends e v) where
 size-some : (w : Word) → 1 ≤ length w → 1 ≤ size w
 unfolding encode
 size-some [] h = absurd (omega arith)
-size-some (c ∷ w) h = let e = encode1-pos c in rw (length-append (Rattle.utf8.specs.Utf8.encode1 c) (encode w)) (omega arith)
+size-some (c ∷ w) h = let e = encode1-pos c in rw (length-append (encode1 c) (encode w)) (omega arith)
 
 -- the letters u in front of a text, with the cursor at their end
 module _ {current : List ℕ} {limit cursor behind : ℕ} {t : Word} (u k : Word) (split : t ≡ u ++ k) (st : Standing current limit cursor behind (atEnd t)) where
-  no-letters : take 0 t ≡ take 0 u
-  no-letters = go t u
-    where
-      go : (a b : Word) → take 0 a ≡ take 0 b
-      go [] [] = refl
-      go [] (c ∷ b) = refl
-      go (c ∷ a) [] = refl
-      go (c ∷ a) (d ∷ b) = refl
-
   shortened : (place : ℕ) → place ≡ size u → Standing current place place behind (atEnd u)
   shortened place e =
       let l : size t ≡ size u + size k = ap size split ∙ size-append u k in
@@ -75,16 +66,13 @@ module _ {current : List ℕ} {limit cursor behind : ℕ} {t : Word} (u k : Word
         sized = e;
         within = omega (arith, st .sized, st .within);
         cursor = (omega arith, e ∙ ap size (sym (take-length u)));
-        back = (omega arith, st .back .1 ∙ ap size no-letters);
+        back = (omega arith, st .back .1);
       }
 
 -- ---- the cut
 module _ (s : SuffixStep) (v : Cutting) (x : Env) (st : Ends x v) (place : ℕ) (at : place ≡ endingAt s (v .text) (x .limit)) where
   abbrev t : Word
   t = v .text
-
-  search : Option ℕ
-  search = taken (endsWith t) (suffix s) (length t)
 
   -- the row that is taken
   module _ (r : ℕ) (q : taken (endsWith (v .text)) (suffix s) (length (v .text)) ≡ some r) where

@@ -7,7 +7,7 @@ use Prim.Native.Nat.{ℕ, zero, suc, _+_, _-_, _≤_, _<_}
 use native.Mathlib.Omega.{arith}
 use lib.Dec.{leb, eqb}
 use lib.ListN.{length, take, drop, getD, length-append, length-take}
-use lib.Seq.{drop-append-add, drop-append-seam, take-append-seam}
+use lib.Seq.{take-nil, drop-append-add, drop-append-seam, take-append-seam}
 use borrow.Author.Tests.{leb-true, eqb-true}
 use Rattle.definition.specs.Words.{Word, pick, both, all, beginsWith}
 use Rattle.definition.specs.Tables.{Row, «A_4», «A_5», «A_6», «A_7», «A_8», «A_9»}
@@ -117,10 +117,6 @@ measured-at (u ∷ us) (n ∷ ns) e zero h = eqb-true (length u) n (both-0 (eqb 
 measured-at (u ∷ us) (n ∷ ns) e (suc k) h = measured-at us ns (both-1 (eqb (length u) n) (measured us ns) e) k (omega arith)
 
 -- ---- an environment at the front
-take-nil : (n : ℕ) → take {A = ℕ} n [] ≡ []
-take-nil zero = refl
-take-nil (suc n) = refl
-
 drop-take : (a b : ℕ) (t : List ℕ) → drop a (take b t) ≡ take (b - a) (drop a t)
 drop-take zero b t = let z : b ≡ b - 0 = omega arith in ap (λ (n : ℕ). take n t) z
 drop-take (suc a) b [] = ap (drop (suc a)) (take-nil b) ∙ sym (take-nil (b - suc a))
@@ -151,7 +147,7 @@ module _ (x : Env) (w : Fronting) (st : Fronts x w) where
       ∙ drop-size (text w) (cursorOf w)
       ∙ ap encode rest-is
 
-  pub failed-as : (s : PrefixStep) → failed w ≡ apply s w → GivesFront (record { found = false; env = x }) (apply s w)
+  failed-as : (s : PrefixStep) → failed w ≡ apply s w → GivesFront (record { found = false; env = x }) (apply s w)
   failed-as s h = subst (GivesFront (record { found = false; env = x })) h (record { found = refl; env = st })
 
   -- a text at which the step fails
@@ -180,9 +176,6 @@ any-next w k ks h = ap (λ (b : Bool). pick b true (beginsWithAny w ks)) h
 
 -- ---- the replacement
 module _ (s : PrefixStep) (w : Fronting) (x : Env) (st : Fronts x w) (f : Found) (tk : Takes s (text w) (w .rest) (x .cursor) f) where
-  abbrev search : Option ℕ
-  search = taken (beginsWith (w .rest)) (prefix s) (length (text w))
-
   -- the row that is taken
   module _ (r : ℕ) (q : taken (beginsWith (w .rest)) (prefix s) (length (text w)) ≡ some r) where
     abbrev key : Row
@@ -321,10 +314,6 @@ passing-in-place f m = record {
 pub headed-in-place : (w : Word) (m : Applied) → InPlace (started w) m (headed (started w) m)
 unfolding started
 headed-in-place w m = record {
-  text = let z : 0 + length (frontRow m) ≡ length (frontRow m) = omega arith in ap (λ (n : ℕ). take 0 w ++ replacement m ++ drop n w) z ∙ go w;
+  text = let z : 0 + length (frontRow m) ≡ length (frontRow m) = omega arith in ap (λ (n : ℕ). replacement m ++ drop n w) z;
   cursor = let z : 0 + length (replacement m) ≡ length (replacement m) = omega arith in z ∙ sym (ap length (append-nil (replacement m)));
 }
-  where
-    go : (x : Word) → take 0 x ++ replacement m ++ drop (length (frontRow m)) w ≡ replacement m ++ ([] ++ drop (length (frontRow m)) w)
-    go [] = refl
-    go (c ∷ x) = refl

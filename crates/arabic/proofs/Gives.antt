@@ -1,7 +1,6 @@
 -- What a class of A_0 gives, read off the number that holds its letters. Assumes nothing.
 use mathlib.Core.Path.{_≡_, refl, sym, ap, _∙_}
 use mathlib.Core.Bool.{Bool, true}
-use mathlib.Core.Logic.{inl}
 use mathlib.Core.List.{[], _∷_, _++_}
 use Prim.Native.Nat.{ℕ, zero, suc, _+_, _/_, _%_, _≤_, _<_}
 use native.Mathlib.Omega.{arith}
@@ -10,10 +9,12 @@ use lib.ListN.{getD}
 use borrow.Author.Tests.{ltb-true, ne-eqb, lt-ltb, le-ltb}
 use Rattle.utf8.specs.Utf8.{Scalar, Scalars, encode1, encode}
 use Rattle.utf8.proofs.Text.{encode-one, encode-append, scalars-append}
-use Rattle.definition.specs.Words.{Word, both, all, same}
+use Rattle.definition.specs.Words.{Word, all, same}
 use Rattle.definition.specs.Tables.{Row, Table}
 use Rattle.definition.specs.Normal.{gives, listedFor, given, normal, normalise}
 use Rattle.definition.proofs.Match.{both-0, both-1, by, same-eq}
+use Rattle.snowball.specs.Rows.{low}
+use Rattle.snowball.proofs.Answers.{low-scalars}
 use Rattle.arabic.specs.Rows.{classOf, packed, unpacked, givenFrom, packedGives}
 use Rattle.arabic.proofs.Table.{kept, normal-class}
 
@@ -92,14 +93,6 @@ module _ (c k v : ℕ) (e : v ≡ getD packedGives k 0) (l : k < 56) (h : k ≡ 
       omega (arith, e, given-at 56 0 k l)
 
 -- ---- what is given are scalar values
-
-abbrev low : Word → Bool
-low [] = true
-low (c ∷ w) = both (ltb c 0xD800) (low w)
-
-low-scalars : (w : Word) → low w ≡ true → Scalars w
-low-scalars [] e = tt
-low-scalars (c ∷ w) e = (inl (ltb-true c 0xD800 (both-0 (ltb c 0xD800) (low w) e)), low-scalars w (both-1 (ltb c 0xD800) (low w) e))
 
 all-low : all (λ (r : Row). low (r .letters)) gives ≡ true
 unfolding gives

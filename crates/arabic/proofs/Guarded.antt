@@ -6,7 +6,7 @@ use mathlib.Core.Option.{none, some}
 use Prim.Native.Nat.{ℕ, zero, suc, _-_, _≤_, _<_}
 use native.Mathlib.Omega.{arith}
 use lib.Dec.{leb}
-use lib.ListN.{length, take, drop, getD}
+use lib.ListN.{length, take, getD}
 use borrow.Author.Tests.{le-leb, lt-leb}
 use Rattle.definition.specs.Words.{Word, pick}
 use Rattle.definition.specs.Search.{Rule, rowAt, longest, guard, met, taken}
@@ -55,8 +55,4 @@ module _ (match : Word → Bool) (s : Rule) (n class : ℕ) (c : class ≡ rowAt
 -- ---- the bytes from the start of a text
 pub from-start : (t : List ℕ) (limit : ℕ) → between t 0 limit ≡ take limit t
 unfolding between
-from-start t limit = let e : limit - 0 ≡ limit = omega arith in ap (λ (n : ℕ). take n (drop 0 t)) e ∙ ap (take limit) (all t)
-  where
-    all : (t : List ℕ) → drop 0 t ≡ t
-    all [] = refl
-    all (x ∷ t) = refl
+from-start t limit = let e : limit - 0 ≡ limit = omega arith in ap (λ (n : ℕ). take n t) e

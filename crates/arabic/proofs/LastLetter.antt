@@ -1,19 +1,17 @@
 -- The last letter 0649: the search that finds it, and what replaces it. Assumes nothing.
 use mathlib.Core.Path.{_≡_, refl, sym, ap, _∙_, subst}
-use mathlib.Core.Bool.{Bool, true, false}
+use mathlib.Core.Bool.{Bool, true}
 use mathlib.Core.List.{[], _∷_, _++_, append-nil}
 use Prim.Native.Nat.{ℕ, _+_, _-_, _≤_}
 use native.Mathlib.Omega.{arith}
-use lib.Dec.{eqb}
 use lib.ListN.{length, take, drop, length-append}
 use lib.Seq.{length-take-le, drop-length}
-use borrow.Author.Tests.{eqb-true}
 use Rattle.definition.specs.Letters.{alefMaksura, yeh}
 use Rattle.definition.specs.Words.{Word, pick, endsWith}
 use Rattle.definition.specs.Tables.{«A_21»}
 use Rattle.definition.specs.Search.{rowAt, longer, longest}
 use Rattle.definition.specs.Endings.{suffixAllAlefMaqsura}
-use Rattle.definition.proofs.Match.{by, clash, ends-split, ends-of}
+use Rattle.definition.proofs.Match.{by, ends-split}
 use Rattle.definition.proofs.Stays.{maqsura-stays}
 use Rattle.utf8.specs.Utf8.{encode, encode1}
 use Rattle.utf8.specs.Places.{size, At}

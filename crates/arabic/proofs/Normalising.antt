@@ -28,9 +28,6 @@ pub record Inv (text : List ℕ) (limit i : ℕ) (out : List ℕ) (at : ℕ) : T
   pub bound : 3 * at ≤ 4 * i
   pub size : length out ≡ 340
 
-no-bytes : (out rest : List ℕ) → take 0 out ++ rest ≡ rest
-no-bytes out rest = refl
-
 pub start : (text : List ℕ) (limit : ℕ) (out cs : List ℕ) → limit ≤ length text → length out ≡ 340 → Encodes (take limit text) cs
     → Inv text limit 0 out 0
 start text limit out cs h z e =
@@ -39,7 +36,7 @@ start text limit out cs h z e =
       whole = e;
       rest = cs;
       to = ahead.start text limit cs h e;
-      bytes = no-bytes out (encode (normalise cs));
+      bytes = refl;
       bound = omega arith;
       size = z;
     }

@@ -55,7 +55,7 @@ module _ (text : List ℕ) (i : ℕ) (p : SomeLetter text i) where
   front : getD text i 0 ≡ getD (encode1 (p .0) ++ p .1) 0 0
   front = let e : i ≡ i + 0 = omega arith in ap (λ (n : ℕ). getD text n 0) e ∙ nth 0
 
-  pub room : i + length (encode1 (p .0)) ≤ length text
+  room : i + length (encode1 (p .0)) ≤ length text
   room = omega (arith, ap length (p .2 .1), length-drop i text, length-append (encode1 c) (p .1), encode1-pos c)
 
   one : c < 0x80 → One text i c

@@ -1,6 +1,6 @@
 -- Stores in a row, and the letter that they write. Assumes nothing.
 use mathlib.Core.Path.{_≡_, refl, sym, ap, _∙_}
-use Prim.Native.Nat.{ℕ, suc, _+_, _-_, _/_, _%_, _≤_, _<_}
+use Prim.Native.Nat.{ℕ, suc, _+_, _/_, _%_, _≤_, _<_}
 use mathlib.Core.List.{List, [], _∷_, _++_, append-assoc, append-nil}
 use native.Mathlib.Omega.{arith}
 use lib.ListN.{length, take, drop, set, length-append}
@@ -13,7 +13,7 @@ module _ (old : List ℕ) (at : ℕ) (bs : List ℕ) (h : at + length bs ≤ len
   long : length (take at old ++ bs) ≡ at + length bs
   long = omega (arith, length-append (take at old) bs, length-take-le at old (omega arith))
 
-  pub wrote : Wrote old at bs (sets old at bs) (at + length bs)
+  wrote : Wrote old at bs (sets old at bs) (at + length bs)
   wrote = record {
     end = refl;
     bytes = ap (take (at + length bs)) (sets-eq bs old at h) ∙ take-at (take at old ++ bs) (drop (at + length bs) old) (at + length bs) long;

@@ -1,16 +1,10 @@
--- Parts of items 3 and 4 that have functions of their own, and the kind as the code holds it.
-use mathlib.Core.Bool.{Bool, true, false}
+-- Parts of items 3 and 4 that have functions of their own.
 use mathlib.Core.List.{[], _∷_}
 use Rattle.definition.specs.Tries.{Step, nothing, _thenTry_, firstOf, attempt}
-use Rattle.definition.specs.Kind.{Kind, OPEN, DEFINED, ifOpen}
+use Rattle.definition.specs.Kind.{Kind, ifOpen}
 use Rattle.definition.specs.Words.{Word}
 use Rattle.definition.specs.Fronts.{Fronting, prefixStep3Verb, prefixStep4Verb, apply}
 use Rattle.definition.specs.Endings.{Cutting, cut, verbStep2a, verbStep2c, nounStep1a, nounStep1b, nounStep2a, nounStep2b, nounStep2c1, nounStep2c2}
-
--- the kind by the Rust's b_is_defined
-abbrev pub kindOf : Bool → Kind
-kindOf true = DEFINED
-kindOf false = OPEN
 
 -- what follows the cuts of the verb's Step1
 unfoldable pub afterStep1 : Step Cutting

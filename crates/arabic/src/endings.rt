@@ -1,4 +1,5 @@
 use snowball::among::find_among_b;
+use snowball::among::wide;
 use snowball::env::Env;
 use snowball::env::has_chars;
 ghost use mathlib.Core.Path.{_≡_};
@@ -18,12 +19,6 @@ ghost use Rattle.arabic.specs.Endings.{Ends, Ready, Gives, endingAt};
 pub struct Tried {
     pub found: bool,
     pub env: Env,
-}
-
-pub fn wide(x: u8) -> usize
-    ensures { λ r. ⌜ r ≡ x ⌝ }
-{
-    x as usize
 }
 
 // The least number of letters for a class, from class 1 on; 0 for a class that has none.

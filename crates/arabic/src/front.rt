@@ -1,8 +1,8 @@
 use crate::endings::Tried;
 use crate::endings::least_letters;
-use crate::endings::wide;
 use snowball::among::Found;
 use snowball::among::find_among;
+use snowball::among::wide;
 use snowball::env::Env;
 use snowball::env::has_chars;
 ghost use mathlib.Core.Path.{_≡_};

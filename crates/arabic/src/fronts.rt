@@ -10,7 +10,8 @@ use snowball::env::Env;
 ghost use Rattle.definition.specs.Words.{Word};
 ghost use Rattle.definition.specs.Fronts.{Fronting, prefixSteps, started};
 ghost use Rattle.arabic.specs.Fronts.{Fronts, ReadyFront, ReadyStart, GivesFront};
-ghost use Rattle.arabic.specs.Nests.{kindOf, verbSteps};
+ghost use Rattle.arabic.specs.Kinds.{kindOf};
+ghost use Rattle.arabic.specs.Nests.{verbSteps};
 
 // Item 4 of `stem`: one function for each of its nested alternatives.
 

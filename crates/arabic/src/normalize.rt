@@ -11,9 +11,10 @@ use crate::tables::A_2_LINKS;
 use crate::tables::A_2_ROWS;
 use snowball::among::find_among;
 use snowball::among::find_among_b;
+use snowball::among::wide;
 use snowball::env::Env;
 ghost use mathlib.Core.Path.{_≡_};
-ghost use Prim.Native.Nat.{_+_, _-_, _*_, _/_, _%_, _<_, _≤_};
+ghost use Prim.Native.Nat.{_+_, _-_, _*_, _%_, _<_, _≤_};
 ghost use lib.ListN.{length, take, getD};
 ghost use Rattle.definition.specs.Words.{Word};
 ghost use Rattle.definition.specs.Normal.{given, normalise};
@@ -31,16 +32,11 @@ struct Letter {
     width: usize,
 }
 
-fn wide(b: u8) -> u32
+// The byte as a number of a letter's width.
+fn code_of(b: u8) -> u32
     ensures { λ r. ⌜ r ≡ b ⌝ }
 {
     b as u32
-}
-
-fn index(b: u8) -> usize
-    ensures { λ r. ⌜ r ≡ b ⌝ }
-{
-    b as usize
 }
 
 // The six bits of a byte behind a letter's first.
@@ -48,7 +44,7 @@ fn bits(b: u8) -> u32
     requires { ⌜ 0x80 ≤ b ⌝ }
     ensures { λ r. ⌜ r ≡ b - 0x80 ⌝ }
 {
-    wide(b) - 0x80
+    code_of(b) - 0x80
 }
 
 // The letter of two bytes.
@@ -56,7 +52,7 @@ fn two(a: u8, b: u8) -> u32
     requires { ⌜ (0xC0 ≤ a) × (0x80 ≤ b) ⌝ }
     ensures { λ r. ⌜ r ≡ (a - 0xC0) * 64 + (b - 0x80) ⌝ }
 {
-    (wide(a) - 0xC0) * 64 + bits(b)
+    (code_of(a) - 0xC0) * 64 + bits(b)
 }
 
 // The letter of three bytes.
@@ -64,7 +60,7 @@ fn three(a: u8, b: u8, c: u8) -> u32
     requires { ⌜ (0xE0 ≤ a) × (0x80 ≤ b) × (0x80 ≤ c) ⌝ }
     ensures { λ r. ⌜ r ≡ ((a - 0xE0) * 64 + (b - 0x80)) * 64 + (c - 0x80) ⌝ }
 {
-    ((wide(a) - 0xE0) * 64 + bits(b)) * 64 + bits(c)
+    ((code_of(a) - 0xE0) * 64 + bits(b)) * 64 + bits(c)
 }
 
 // The letter of four bytes.
@@ -72,7 +68,7 @@ fn four(a: u8, b: u8, c: u8, d: u8) -> u32
     requires { ⌜ (0xF0 ≤ a) × (0x80 ≤ b) × (0x80 ≤ c) × (0x80 ≤ d) ⌝ }
     ensures { λ r. ⌜ r ≡ (((a - 0xF0) * 64 + (b - 0x80)) * 64 + (c - 0x80)) * 64 + (d - 0x80) ⌝ }
 {
-    (((wide(a) - 0xF0) * 64 + bits(b)) * 64 + bits(c)) * 64 + bits(d)
+    (((code_of(a) - 0xF0) * 64 + bits(b)) * 64 + bits(c)) * 64 + bits(d)
 }
 
 // The letter that starts at the cursor.
@@ -83,7 +79,7 @@ fn read_letter(text: &[u8], cursor: usize) -> Letter
     let a = text[cursor];
     if a < 0x80 {
         return Letter {
-            code: wide(a),
+            code: code_of(a),
             width: 1,
         };
     }
@@ -178,7 +174,7 @@ fn listed_class(row: usize) -> usize
     requires { ⌜ row < 161 ⌝ }
     ensures { λ r. ⌜ r ≡ getD classes row 0 ⌝ }
 {
-    index(A_0_CLASSES[row])
+    wide(A_0_CLASSES[row])
 }
 
 // The class of a row of A_0, and 0 behind the last row.

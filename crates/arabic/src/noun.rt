@@ -14,7 +14,8 @@ ghost use Rattle.definition.specs.Tries.{Try, orElse, andThen};
 ghost use Rattle.definition.specs.Kind.{ifOpen};
 ghost use Rattle.definition.specs.Endings.{Cutting, cut, nounStep2a, nounStep2b, nounStep2c1, noun};
 ghost use Rattle.arabic.specs.Endings.{Ends, Ready, Gives, Given};
-ghost use Rattle.arabic.specs.Nests.{kindOf, afterStep1a, afterStep1b, byStep1a, byStep1b, nounFirst};
+ghost use Rattle.arabic.specs.Kinds.{kindOf};
+ghost use Rattle.arabic.specs.Nests.{afterStep1a, afterStep1b, byStep1a, byStep1b, nounFirst};
 
 // The noun's alternative of `stem`: one function for each of its nested alternatives.
 

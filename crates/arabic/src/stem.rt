@@ -6,7 +6,6 @@ use crate::normalize::r_Normalize_pre;
 use crate::suffix_steps::suffix_steps;
 use snowball::env::Env;
 use snowball::env::count_chars;
-ghost use mathlib.Core.Path.{_≡_};
 ghost use Prim.Native.Nat.{_≤_};
 ghost use Rattle.definition.specs.Words.{Word};
 ghost use Rattle.definition.specs.Tries.{after};
@@ -14,11 +13,10 @@ ghost use Rattle.definition.specs.Normal.{normalise};
 ghost use Rattle.definition.specs.Endings.{endings, maqsuraIfFailed};
 ghost use Rattle.definition.specs.Fronts.{text, fronts};
 ghost use Rattle.definition.specs.Finish.{finish};
-ghost use Rattle.definition.specs.Kind.{kind};
 ghost use Rattle.definition.specs.Stem.{stemOf, stem};
 ghost use Rattle.snowball.specs.Chars.{started};
 ghost use Rattle.snowball.specs.Stands.{Stands};
-ghost use Rattle.arabic.specs.Nests.{kindOf};
+ghost use Rattle.arabic.specs.Kinds.{kindOf};
 
 // Item 3: the endings, backward from the end of the text. The cursor then goes back to the front.
 fn cut_endings(env: Env, b_is_defined: bool) -> Env
@@ -68,20 +66,12 @@ fn stem_of(env: Env, context: Context) -> Env
     finish_letters(p)
 }
 
-// The stem of the word, and whether the word is defined.
-pub struct Stemmed {
-    pub defined: bool,
-    pub env: Env,
-}
-
 // The Rust's stem, on a new environment for a word of up to 255 bytes.
-pub fn stem(env: Env) -> Stemmed
+pub fn stem(env: Env) -> Env
     requires { ⌜ ((w : Word) × Stands env (started w)) × (env .limit ≤ 255) ⌝ }
-    ensures { λ r. ⌜ ((w : Word) → Stands env (started w) → (kindOf (r .defined) ≡ kind w) × Stands (r .env) (started (stem w))) ⌝ }
+    ensures { λ r. ⌜ ((w : Word) → Stands env (started w) → Stands r (started (stem w))) ⌝ }
 {
     let limit = env.limit;
     let context = checked(&env.current, limit);
-    let defined = context.b_is_defined;
-    let e = stem_of(env, context);
-    Stemmed { defined, env: e }
+    stem_of(env, context)
 }

@@ -9,7 +9,7 @@ ghost use Rattle.definition.specs.Kind.{ifOpen};
 ghost use Rattle.definition.specs.Endings.{Cutting, verb, noun, endings, maqsuraIfFailed};
 ghost use Rattle.snowball.specs.Stands.{Stands};
 ghost use Rattle.arabic.specs.Endings.{Ends, Ready, Gives, Given, atEnd};
-ghost use Rattle.arabic.specs.Nests.{kindOf};
+ghost use Rattle.arabic.specs.Kinds.{kindOf};
 
 // Item 3 of `stem`.
 

@@ -14,7 +14,7 @@ use Rattle.lines.specs.Plain.{lineFeed, mark, skipMark}
 use Rattle.lines.specs.Machine.{opened}
 
 -- an answer that goes both ways is `same`
-pub same-is : (r : Bool) (a b : List ℕ) → (r ≡ true → a ≡ b) → (a ≡ b → r ≡ true) → same a b ≡ r
+same-is : (r : Bool) (a b : List ℕ) → (r ≡ true → a ≡ b) → (a ≡ b → r ≡ true) → same a b ≡ r
 same-is true a b f g = rw (f refl) (same-refl b)
 same-is false a b f g = by (same a b) (λ e. absurd (false≢true (g (same-eq a b e)))) (λ e. e)
 

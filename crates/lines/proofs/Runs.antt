@@ -14,12 +14,12 @@ use Rattle.lines.specs.Machine.{Reading, lineRoom, step, said, after, wr
 use Rattle.lines.proofs.Answering.{line-most}
 use Rattle.lines.proofs.Lists.{rest-is}
 
-pub after-append : (s : Reading) (xs ys : List ℕ) → after s (xs ++ ys) ≡ after (after s xs) ys
+after-append : (s : Reading) (xs ys : List ℕ) → after s (xs ++ ys) ≡ after (after s xs) ys
 unfolding after
 after-append s [] ys = refl
 after-append s (x ∷ xs) ys = after-append (step s x) xs ys
 
-pub written-append : (s : Reading) (xs ys : List ℕ) → written s (xs ++ ys) ≡ written s xs ++ written (after s xs) ys
+written-append : (s : Reading) (xs ys : List ℕ) → written s (xs ++ ys) ≡ written s xs ++ written (after s xs) ys
 unfolding after written
 written-append s [] ys = refl
 written-append s (x ∷ xs) ys = rw (written-append (step s x) xs ys, append-assoc)

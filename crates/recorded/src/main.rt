@@ -58,7 +58,7 @@ fn answer(word: &[u8], out: &mut [u8]) {
     write(b"\n");
 }
 
-// One byte of the input: how many bytes of the line stand in front of it then. LF answers the line.
+// Takes one byte of the input, and answers how many bytes the line then has. LF answers the line.
 fn take_byte(b: u8, line: &mut [u8], len: usize, out: &mut [u8]) -> usize
     requires { ⌜ (length (now line) ≡ 512) × (len ≤ 512) ⌝ }
     ensures { λ r. ⌜ r ≤ 512 ⌝ }

@@ -30,11 +30,7 @@ eqb-sym x y = by (eqb x y) (λ e. e ∙ sym (eq-eqb y x (sym (eqb-true x y e))))
 
 begins-same : (u w : Word) → begins u w ≡ beginsWith w u
 unfolding beginsWith same
-begins-same [] w = go w
-  where
-    go : (w : Word) → true ≡ same (take 0 w) []
-    go [] = refl
-    go (c ∷ w) = refl
+begins-same [] w = refl
 begins-same (x ∷ u) [] = refl
 begins-same (x ∷ u) (y ∷ w) = (λ i. both (eqb-sym x y i) (begins-same u w i))
 

@@ -1,7 +1,7 @@
 -- Bytes copied into an array. Assumes nothing.
-use mathlib.Core.Path.{_≡_, refl, sym, ap, _∙_}
+use mathlib.Core.Path.{_≡_, sym, ap, _∙_}
 use Prim.Native.Nat.{ℕ, _+_, _-_, _≤_, _<_}
-use mathlib.Core.List.{List, [], _∷_, _++_}
+use mathlib.Core.List.{List, _++_}
 use native.Mathlib.Numerals.{add-one}
 use native.Mathlib.Omega.{arith}
 use lib.ListN.{length, take, getD, set}
@@ -35,11 +35,7 @@ module _ (out out₀ : List ℕ) (at : ℕ) (s : List ℕ) (e : out ≡ paste ou
 pub front-bytes : (out out₀ s : List ℕ) → out ≡ paste out₀ 0 (slice 0 (length s) s) (length s - 0) → length s ≤ length out₀ → take (length s) out ≡ s
 front-bytes out out₀ s e h =
     let z : length s ≡ 0 + length s = omega arith in
-    ap (λ (k : ℕ). take k out) z ∙ whole-front out out₀ 0 s e (omega arith) ∙ ap (λ (x : List ℕ). x ++ s) (none out₀)
-  where
-    none : (l : List ℕ) → take 0 l ≡ []
-    none [] = refl
-    none (x ∷ l) = refl
+    ap (λ (k : ℕ). take k out) z ∙ whole-front out out₀ 0 s e (omega arith)
 
 -- what `replace_s` copies: s behind the first bra bytes, and behind it what stood from ket on
 module _ (cur front back s : List ℕ) (bra ket limit : ℕ) (o : bra ≤ ket) (p : ket ≤ limit) (q : limit ≤ length cur)

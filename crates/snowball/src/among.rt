@@ -32,7 +32,8 @@ pub struct Found {
 // The mark for a row with no link; -1 in the Rust.
 pub const NONE: u8 = 255;
 
-fn wide(x: u8) -> usize
+// The byte as a length or a place.
+pub fn wide(x: u8) -> usize
     ensures { λ r. ⌜ r ≡ x ⌝ }
 {
     x as usize

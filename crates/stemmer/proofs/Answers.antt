@@ -26,7 +26,7 @@ use Rattle.stemmer.specs.Entries.{codeOf, countOf, letters, bytesOf, fit
 
 -- ---- a word's letters
 
-pub letters-are : (word cs : List ℕ) → decode word ≡ some cs → letters word ≡ cs
+letters-are : (word cs : List ℕ) → decode word ≡ some cs → letters word ≡ cs
 unfolding letters
 letters-are word cs e = rw e refl
 
@@ -112,10 +112,10 @@ module _ (f : Word → Word) (word : List ℕ) (room n : ℕ) (e : answer f word
   both-said =
       done-of (ltb 255 (length word)) (not (wellFormed word)) (ltb room (length (bytesOf f word))) (length (bytesOf f word)) n e
 
-  pub count-is : length (bytesOf f word) ≡ n
+  count-is : length (bytesOf f word) ≡ n
   count-is = both-said .1
 
-  pub count-fits : n ≤ room
+  count-fits : n ≤ room
   count-fits = omega (arith, ltb-false room (length (bytesOf f word)) (both-said .0), count-is)
 
 pub done-count : (word : List ℕ) (room n : ℕ) → answer stem word room ≡ Done n → length (bytesOf stem word) ≡ n

@@ -28,7 +28,7 @@ pub struct KindAnswer {
     pub kind: Kind,
 }
 
-// The most bytes that a word has.
+// The most bytes that a word may have.
 pub const LONGEST: usize = 255;
 
 // Copies the first n bytes of text to the front of out. The bytes of out behind them stay.
@@ -68,8 +68,7 @@ pub fn stem(word: &[u8], out: &mut [u8]) -> Answer
     }
     if well_formed(word) {
         let env = Env::create(word);
-        let s = arabic::stem::stem(env);
-        let e = s.env;
+        let e = arabic::stem::stem(env);
         let limit = e.limit;
         return deliver(&e.current, limit, out);
     }
@@ -152,5 +151,5 @@ pub fn version(out: &mut [u8]) -> Answer
     ensures { λ r. ⌜ now (out .exit) ≡ outAfter (fitting (length version) (length (now (out .entry)))) version (now (out .entry)) ⌝ }
 {
     let text = b"arabic_stemmer 1.0.0, as rust-stemmers 1.2.0";
-    deliver(text, 44, out)
+    deliver(text, text.len(), out)
 }

@@ -30,27 +30,27 @@ stem-requires c κs =
 
 deliver-requires : tie.Need-deliver-requires
 deliver-requires c κs =
-    let a = c .before .before .before .before .before .before .before .before .before .before .before .before .args in
-    let t = sym (c .before .before .before .before .before .before .before .before .well-formed .ensures) ∙ c .before .before .before .before .before .before .before .if2 .taken in
-    let m = c .before .before .before .before .before .before .create .ensures in
+    let a = c .before .before .before .before .before .before .before .before .before .before .before .args in
+    let t = sym (c .before .before .before .before .before .before .before .well-formed .ensures) ∙ c .before .before .before .before .before .before .if2 .taken in
+    let m = c .before .before .before .before .before .create .ensures in
     let w = word-letters (a .word .now) t in
-    let q = c .before .before .before .before .before .stem .ensures w (m .1 w (scalars (a .word .now) t) (spelling (a .word .now) t)) in
-    spelt (q .1) .within
+    let q = c .before .before .before .before .stem .ensures w (m .1 w (scalars (a .word .now) t) (spelling (a .word .now) t)) in
+    spelt q .within
 
 same-length : tie.Need-same-length
 same-length c = search needs
 
 returns-2 : tie.Need-returns-2
 returns-2 c =
-    let a = c .before .before .before .before .before .before .before .before .before .before .before .before .before .before .before .args in
-    let t = sym (c .before .before .before .before .before .before .before .before .before .before .before .well-formed .ensures) ∙ c .before .before .before .before .before .before .before .before .before .before .if2 .taken in
-    let m = c .before .before .before .before .before .before .before .before .before .create .ensures in
+    let a = c .before .before .before .before .before .before .before .before .before .before .before .before .before .before .args in
+    let t = sym (c .before .before .before .before .before .before .before .before .before .before .well-formed .ensures) ∙ c .before .before .before .before .before .before .before .before .before .if2 .taken in
+    let m = c .before .before .before .before .before .before .before .before .create .ensures in
     let w = word-letters (a .word .now) t in
-    let k = c .before .before .before .before .before .before .before .before .stem in
+    let k = c .before .before .before .before .before .before .before .stem in
     let q = k .ensures w (m .1 w (scalars (a .word .now) t) (spelling (a .word .now) t)) in
     let d = c .before .before .deliver in
-    let x = delivered stem (a .word .now) (omega arith) t (k .result .env) (q .1) (d .result) (a .out .now) (d .last .1 .1 .0) (d .ensures .0) (d .ensures .1) in
-    (x .0, (x .1, (owed (a .word .now) (a .out .now) (d .last .1 .1 .0) (d .result) (x .0) (x .1), no-room (d .result) (k .result .env .limit) (length (a .out .now)) (d .ensures .0) (q .1 .within))))
+    let x = delivered stem (a .word .now) (omega arith) t (k .result) q (d .result) (a .out .now) (d .last .1 .1 .0) (d .ensures .0) (d .ensures .1) in
+    (x .0, (x .1, (owed (a .word .now) (a .out .now) (d .last .1 .1 .0) (d .result) (x .0) (x .1), no-room (d .result) (k .result .limit) (length (a .out .now)) (d .ensures .0) (q .within))))
 
 returns-3 : tie.Need-returns-3
 returns-3 c =

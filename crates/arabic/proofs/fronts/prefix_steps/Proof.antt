@@ -7,7 +7,8 @@ use Rattle.definition.specs.Kind.{Kind, OPEN, ifOpen}
 use Rattle.definition.specs.Fronts.{Fronting, prefixStep1, prefixStep2, prefixStep3aNoun, prefixStep3bNoun, apply, prefixSteps, started}
 use Rattle.arabic.specs.declared.endings.Tried.{Tried}
 use Rattle.arabic.specs.Fronts.{Fronts, GivesFront}
-use Rattle.arabic.specs.Nests.{kindOf, verbSteps}
+use Rattle.arabic.specs.Kinds.{kindOf}
+use Rattle.arabic.specs.Nests.{verbSteps}
 use Rattle.arabic.proofs.Nest.{ready-front, or-yes, or-no, not-open, prefix-steps-is}
 use borrow.Author.Needs.{needs}
 use Rattle.arabic.proofs.fronts.prefix_steps.Statement.{statement}

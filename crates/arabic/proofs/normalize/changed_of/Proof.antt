@@ -1,4 +1,4 @@
--- `changed_of`: a letter that is in no row, a last letter, and any other. Assumes nothing.
+-- `normalize::changed_of` meets its contract: a letter that is in no row, a last letter, and any other. Assumes nothing.
 use borrow.Author.Needs.{needs}
 use Rattle.arabic.proofs.Changes.{stays-below, stays-above}
 use Rattle.arabic.proofs.normalize.changed_of.Statement.{statement}

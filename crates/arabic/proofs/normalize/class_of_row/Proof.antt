@@ -1,4 +1,4 @@
--- `class_of_row`: behind the last row stands 0. Assumes nothing.
+-- `normalize::class_of_row` meets its contract: behind the last row stands 0. Assumes nothing.
 use mathlib.Core.Path.{_≡_, refl, sym, ap, _∙_}
 use Prim.Native.Nat.{ℕ}
 use lib.ListN.{getD}

@@ -1,4 +1,4 @@
--- `finish_text`: each turn changes one letter in place, and the turns are enough for all. Assumes nothing.
+-- `normalize::finish_text` meets its contract: each turn changes one letter in place, and the turns are enough for all. Assumes nothing.
 use Prim.Native.Nat.{_-_}
 use native.Mathlib.Omega.{arith}
 use Rattle.arabic.proofs.Finishing.{Inv, start, letter, moves, letter-from, room, code-top, turn, at-limit, after-turns}

@@ -1,4 +1,4 @@
--- `give`: a letter with no row is kept. Assumes nothing.
+-- `normalize::give` meets its contract: a letter with no row is kept. Assumes nothing.
 use mathlib.Core.Path.{_≡_, refl, ap}
 use Prim.Native.Nat.{ℕ, zero, suc, _<_}
 use native.Mathlib.Omega.{arith}

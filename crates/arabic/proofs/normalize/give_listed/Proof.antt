@@ -1,4 +1,4 @@
--- `give_listed`: the letters in the number of a class are those that it gives. Assumes nothing.
+-- `normalize::give_listed` meets its contract: the letters in the number of a class are those that it gives. Assumes nothing.
 use mathlib.Core.Path.{ap, _∙_}
 use native.Mathlib.Omega.{arith}
 use lib.ListN.{length, length-append}

@@ -1,4 +1,4 @@
--- `given_number` reads the packed table. Assumes nothing.
+-- `normalize::given_number` meets its contract: it reads the packed table. Assumes nothing.
 use mathlib.Core.Path.{refl}
 use Rattle.definition.specs.Normal.{gives, listedFor}
 use Rattle.arabic.specs.Rows.{packedGives}

@@ -1,4 +1,4 @@
--- `last_of`: its table is A_1, and each class gives 0621. Assumes nothing.
+-- `normalize::last_of` meets its contract: its table is A_1, and each class gives 0621. Assumes nothing.
 use mathlib.Core.Path.{_≡_, refl, sym, _∙_}
 use mathlib.Core.List.{[], _∷_, append-nil}
 use borrow.Author.Needs.{needs}

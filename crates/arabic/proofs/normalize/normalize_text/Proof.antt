@@ -1,4 +1,4 @@
--- `normalize_text`: each turn reads a letter and writes what stands for it. Assumes nothing.
+-- `normalize::normalize_text` meets its contract: each turn reads a letter and writes what stands for it. Assumes nothing.
 use mathlib.Core.Path.{refl}
 use Prim.Native.Nat.{_-_}
 use native.Mathlib.Omega.{arith}

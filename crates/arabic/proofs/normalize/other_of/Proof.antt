@@ -1,4 +1,4 @@
--- `other_of`: its table is A_2, and each class has its letter. Assumes nothing.
+-- `normalize::other_of` meets its contract: its table is A_2, and each class has its letter. Assumes nothing.
 use mathlib.Core.Path.{_≡_, refl, sym, _∙_}
 use mathlib.Core.List.{[], _∷_, append-nil}
 use borrow.Author.Needs.{needs}

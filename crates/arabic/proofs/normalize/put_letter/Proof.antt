@@ -1,4 +1,4 @@
--- `put_letter`: the bytes that are stored are those of the letter. Assumes nothing.
+-- `normalize::put_letter` meets its contract: the bytes that are stored are those of the letter. Assumes nothing.
 use native.Mathlib.Omega.{arith}
 use Rattle.arabic.proofs.Stores.{put-1, put-2, put-3, put-4, size-1, size-2, size-3, size-4}
 use borrow.Author.Needs.{needs}

@@ -1,4 +1,4 @@
--- `r_Normalize_post`: the array holds the word finished. Assumes nothing.
+-- `normalize::r_Normalize_post` meets its contract: the array holds the word finished. Assumes nothing.
 use Rattle.arabic.proofs.Standing.{encoded, finished}
 use borrow.Author.Needs.{needs}
 use Rattle.arabic.proofs.normalize.r_Normalize_post.Statement.{statement}

@@ -1,4 +1,4 @@
--- `r_Normalize_pre`: the new array holds the word normalised. Assumes nothing.
+-- `normalize::r_Normalize_pre` meets its contract: the new array holds the word normalised. Assumes nothing.
 use mathlib.Core.Path.{refl}
 use Rattle.arabic.proofs.Standing.{spelt, encoded, normalised}
 use Rattle.arabic.proofs.normalize.r_Normalize_pre.Statement.{statement}

@@ -1,4 +1,4 @@
--- `read_letter`: the letter is read off its bytes, whose number the first one tells. Assumes nothing.
+-- `normalize::read_letter` meets its contract: the letter is read off its bytes, whose number the first one tells. Assumes nothing.
 use native.Mathlib.Omega.{arith}
 use Rattle.arabic.proofs.Reading.{room-1, room-2, room-3, room-4, marks-2, marks-3, marks-4, reads-1, reads-2, reads-3, reads-4}
 use borrow.Author.Needs.{needs}
@@ -12,15 +12,15 @@ shared-slice-read-a c =
     let i = s .args .cursor in
     omega (arith, room-1 w i (s .pre))
 
-wide-requires : tie.Need-wide-requires
-wide-requires c κs = search needs
+code-of-requires : tie.Need-code-of-requires
+code-of-requires c κs = search needs
 
 returns : tie.Need-returns
 returns c =
     let s = c .before .before .before .before in
     let w = s .args .text .now in
     let i = s .args .cursor in
-    λ x t l. reads-1 w i (x, t, l) (c .wide .result) (omega arith) (c .wide .ensures)
+    λ x t l. reads-1 w i (x, t, l) (c .code-of .result) (omega arith) (c .code-of .ensures)
 
 add-b : tie.Need-add-b
 add-b c =
@@ -111,7 +111,7 @@ read-letter-spec =
     tie.close
     (tie.spec
     shared-slice-read-a
-    wide-requires
+    code-of-requires
     returns
     add-b
     shared-slice-read-b

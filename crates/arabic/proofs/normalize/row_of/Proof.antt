@@ -1,4 +1,4 @@
--- `row_of`: the keys before lo are less than c, and those from hi on are not. Assumes nothing.
+-- `normalize::row_of` meets its contract: the keys before lo are less than c, and those from hi on are not. Assumes nothing.
 use mathlib.Core.Path.{sym}
 use Prim.Native.Nat.{_+_, _-_, _/_}
 use native.Mathlib.Omega.{arith}

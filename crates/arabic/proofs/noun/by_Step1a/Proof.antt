@@ -2,7 +2,8 @@
 use mathlib.Core.Path.{refl, sym, subst}
 use mathlib.Core.Bool.{Bool, false}
 use Rattle.arabic.specs.Endings.{Gives}
-use Rattle.arabic.specs.Nests.{kindOf, byStep1a}
+use Rattle.arabic.specs.Kinds.{kindOf}
+use Rattle.arabic.specs.Nests.{byStep1a}
 use Rattle.arabic.proofs.Nest.{by-step1a-is}
 use borrow.Author.Needs.{needs}
 use Rattle.arabic.proofs.noun.by_Step1a.Statement.{statement}

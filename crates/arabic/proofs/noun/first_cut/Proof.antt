@@ -6,7 +6,8 @@ use Rattle.definition.specs.Kind.{Kind, ifOpen}
 use Rattle.definition.specs.Endings.{Cutting, cut, nounStep2a, nounStep2b, nounStep2c2}
 use Rattle.arabic.specs.declared.endings.Tried.{Tried}
 use Rattle.arabic.specs.Endings.{Ends, Ready, Gives}
-use Rattle.arabic.specs.Nests.{kindOf, byStep1a, byStep1b, nounFirst}
+use Rattle.arabic.specs.Kinds.{kindOf}
+use Rattle.arabic.specs.Nests.{byStep1a, byStep1b, nounFirst}
 use Rattle.arabic.proofs.Nest.{ready, or-yes, or-no, last-nothing}
 use borrow.Author.Needs.{needs}
 use Rattle.arabic.proofs.noun.first_cut.Statement.{statement}

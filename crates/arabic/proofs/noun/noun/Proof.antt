@@ -2,7 +2,7 @@
 use mathlib.Core.Path.{subst}
 use Rattle.definition.specs.Endings.{cut, nounStep3}
 use Rattle.arabic.specs.Endings.{Gives}
-use Rattle.arabic.specs.Nests.{kindOf}
+use Rattle.arabic.specs.Kinds.{kindOf}
 use Rattle.arabic.proofs.Nest.{ready, then-yes, noun-is}
 use borrow.Author.Needs.{needs}
 use Rattle.arabic.proofs.noun.noun.Statement.{statement}

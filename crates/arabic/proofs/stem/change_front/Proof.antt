@@ -2,7 +2,7 @@
 use Rattle.definition.specs.Tries.{after}
 use Rattle.definition.specs.Fronts.{prefixSteps, fronts}
 use Rattle.definition.specs.Fronts as definition
-use Rattle.arabic.specs.Nests.{kindOf}
+use Rattle.arabic.specs.Kinds.{kindOf}
 use Rattle.arabic.proofs.Items.{at-start, back-to}
 use Rattle.arabic.proofs.stem.change_front.Statement.{statement}
 use Rattle.arabic.proofs.stem.change_front.Tie as tie

@@ -6,8 +6,7 @@ use Rattle.definition.specs.Stem.{stemOf, stem}
 use Rattle.snowball.specs.Chars.{started}
 use Rattle.snowball.specs.Stands.{Stands}
 use Rattle.arabic.specs.declared.context.Context.{Context}
-use Rattle.arabic.specs.Kinds.{flags}
-use Rattle.arabic.specs.Nests.{kindOf}
+use Rattle.arabic.specs.Kinds.{flags, kindOf}
 use Rattle.arabic.proofs.Standing.{spelt}
 use borrow.Author.Needs.{needs}
 use Rattle.arabic.proofs.stem.stem.Statement.{statement}
@@ -29,7 +28,7 @@ returns c =
     let k = c .before .checked in
     λ w st.
     let e : kindOf (k .result .«b_is_defined») ≡ kind w = ap (λ (x : Context). kindOf (x .«b_is_defined»)) (k .ensures w (st .scalars) (st .bytes)) ∙ kind-back (kind w) in
-    (e, subst (λ (x : Kind). Stands (c .stem-of .result) (started (stemOf x (normalise w)))) e (c .stem-of .ensures w st))
+    subst (λ (x : Kind). Stands (c .stem-of .result) (started (stemOf x (normalise w)))) e (c .stem-of .ensures w st)
 
 pub stem-spec : {M : Type 1} → statement M
 stem-spec = tie.close (tie.spec checked-requires stem-of-requires returns)

@@ -4,7 +4,7 @@ use Rattle.definition.specs.Normal.{normalise}
 use Rattle.definition.specs.Endings.{endings, maqsuraIfFailed}
 use Rattle.definition.specs.Stem.{cutting, fronting, stemOf}
 use Rattle.snowball.specs.Chars.{started}
-use Rattle.arabic.specs.Nests.{kindOf}
+use Rattle.arabic.specs.Kinds.{kindOf}
 use Rattle.arabic.proofs.stem.stem_of.Statement.{statement}
 use Rattle.arabic.proofs.stem.stem_of.Tie as tie
 

@@ -4,7 +4,7 @@ use mathlib.Core.Bool.{Bool, false}
 use Rattle.definition.specs.Kind.{ifOpen}
 use Rattle.definition.specs.Endings.{verb}
 use Rattle.arabic.specs.Endings.{Gives}
-use Rattle.arabic.specs.Nests.{kindOf}
+use Rattle.arabic.specs.Kinds.{kindOf}
 use borrow.Author.Needs.{needs}
 use Rattle.arabic.proofs.suffix_steps.open_verb.Statement.{statement}
 use Rattle.arabic.proofs.suffix_steps.open_verb.Tie as tie

@@ -1,6 +1,6 @@
 -- `suffix_steps::or_noun` meets its contract. Assumes nothing.
 use Rattle.definition.specs.Endings.{noun}
-use Rattle.arabic.specs.Nests.{kindOf}
+use Rattle.arabic.specs.Kinds.{kindOf}
 use Rattle.arabic.proofs.Nest.{or-yes, or-no, ready}
 use Rattle.arabic.proofs.suffix_steps.or_noun.Statement.{statement}
 use Rattle.arabic.proofs.suffix_steps.or_noun.Tie as tie

@@ -3,7 +3,8 @@ use mathlib.Core.Path.{subst}
 use Rattle.definition.specs.Words.{Word}
 use Rattle.definition.specs.Endings.{endings}
 use Rattle.arabic.specs.Endings.{Ends, Gives}
-use Rattle.arabic.specs.Nests.{kindOf, uncut}
+use Rattle.arabic.specs.Kinds.{kindOf}
+use Rattle.arabic.specs.Nests.{uncut}
 use Rattle.arabic.proofs.Nest.{ready, endings-is, maqsura-done, maqsura-failed}
 use borrow.Author.Needs.{needs}
 use Rattle.arabic.proofs.suffix_steps.suffix_steps.Statement.{statement}
