@@ -32,7 +32,7 @@ struct Letter {
     width: usize,
 }
 
-// The byte as a number of a letter's width.
+// The byte as a u32, the type of a letter's number.
 fn code_of(b: u8) -> u32
     ensures { λ r. ⌜ r ≡ b ⌝ }
 {

@@ -32,7 +32,7 @@ pub struct Found {
 // The mark for a row with no link; -1 in the Rust.
 pub const NONE: u8 = 255;
 
-// The byte as a length or a place.
+// The byte as a usize, the type of lengths and places.
 pub fn wide(x: u8) -> usize
     ensures { λ r. ⌜ r ≡ x ⌝ }
 {
