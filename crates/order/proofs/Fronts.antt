@@ -35,32 +35,32 @@ begins-begins w key k p q =
     (begins-split w key p ∙ ap (λ (x : Word). x ++ drop (length key) w) (begins-split key k q) ∙ append-assoc k (drop (length k) key) (drop (length key) w))
 
 -- both can stand in front of one word
-abbrev together : Word → Word → Bool
+abbrev pub together : Word → Word → Bool
 together key k = either (beginsWith key k) (beginsWith k key)
 
-front-fits : (w key k : Word) → beginsWith w key ≡ true → beginsWith w k ≡ true → together key k ≡ true
+pub front-fits : (w key k : Word) → beginsWith w key ≡ true → beginsWith w k ≡ true → together key k ≡ true
 front-fits w key k p q = by (leb (length k) (length key))
     (λ t. ap (λ (b : Bool). either b (beginsWith k key)) (begins-shorter w key k p q (leb-true (length k) (length key) t)))
     (λ t. either-right (beginsWith key k) (beginsWith k key) (begins-shorter w k key q p (omega (arith, leb-false (length k) (length key) t))))
 
-any-begins : (w key : Word) (ks : List Word) → beginsWith w key ≡ true → beginsWithAny key ks ≡ true → beginsWithAny w ks ≡ true
+pub any-begins : (w key : Word) (ks : List Word) → beginsWith w key ≡ true → beginsWithAny key ks ≡ true → beginsWithAny w ks ≡ true
 any-begins w key [] p q = q
 any-begins w key (k ∷ ks) p q = by (beginsWith key k)
     (λ t. ap (λ (b : Bool). either b (beginsWithAny w ks)) (begins-begins w key k p t))
     (λ t. either-right (beginsWith w k) (beginsWithAny w ks) (any-begins w key ks p (rw t at q)))
 
 -- ---- a front step takes a row, or fails and changes nothing
-record Takes (s : PrefixStep) (f : Fronting) : Type 0 where
-  row : ℕ
-  taken : Taken (beginsWith (f .rest)) (prefix s) (length (text f)) row
-  allowed : beginsWithAny (f .rest) (notAt s) ≡ false
-  changes : apply s f ≡ done (change s f (at s row))
+pub record Takes (s : PrefixStep) (f : Fronting) : Type 0 where
+  pub row : ℕ
+  pub taken : Taken (beginsWith (f .rest)) (prefix s) (length (text f)) row
+  pub allowed : beginsWithAny (f .rest) (notAt s) ≡ false
+  pub changes : apply s f ≡ done (change s f (at s row))
 
 unless : (s : PrefixStep) (f : Fronting) (b : Bool) → beginsWithAny (f .rest) (notAt s) ≡ b → apply s f ≡ applyUnless b s f
 unfolding apply
 unless s f b e = ap (λ (c : Bool). applyUnless c s f) e
 
-takes : (s : PrefixStep) (f : Fronting) → Takes s f ⊎ Fails (apply s) f
+pub takes : (s : PrefixStep) (f : Fronting) → Takes s f ⊎ Fails (apply s) f
 takes s f = go (beginsWithAny (f .rest) (notAt s)) refl
   where
     row : (o : Option ℕ) → taken (beginsWith (f .rest)) (prefix s) (length (text f)) ≡ o → beginsWithAny (f .rest) (notAt s) ≡ false → Takes s f ⊎ Fails (apply s) f

@@ -6,3 +6,4 @@ pub mod Fronts
 pub mod Same
 pub mod Kept
 pub mod Settled
+pub mod Defined
