@@ -42,10 +42,12 @@ typedef struct {
 } arabic_stemmer_kind_answer;
 
 /* The stem of the word: with code 0 its bytes stand in front of the output, and the bytes behind the count are the
- * old ones. A word of marks or punctuation alone has an empty stem, with code 0 and count 0. */
+ * old ones. A word of nothing but characters that normalising deletes has an empty stem, with code 0
+ * and count 0. */
 arabic_stemmer_answer arabic_stemmer_stem(const uint8_t *word, size_t word_length, uint8_t *output, size_t output_length);
 
-/* The word normalised, with nothing cut: marks and punctuation deleted, digits and presentation forms replaced. */
+/* The word normalised, with nothing cut: vowel marks, the tatweel and some punctuation deleted, digits and presentation forms
+ * replaced. */
 arabic_stemmer_answer arabic_stemmer_normalise(const uint8_t *word, size_t word_length, uint8_t *output, size_t output_length);
 
 /* The stemmer's last step alone, on the word as given: a last letter U+0622 to U+0626 becomes U+0621; elsewhere these lose
