@@ -1,4 +1,4 @@
--- No stem holds `?`: it is a key of A_0, and a byte of a longer character is never below 80. Assumes nothing.
+-- No stem holds `?`: it is a key of A_0, and a byte of a longer letter is never below 80. Assumes nothing.
 use mathlib.Core.Path.{_≡_, refl, sym, ap, _∙_}
 use mathlib.Core.List.{List, [], _∷_, _++_}
 use Prim.Native.Nat.{ℕ, _<_}

@@ -1,4 +1,4 @@
--- `stem` lends a part of its array. Assumes nothing.
+-- `stem` lends a part of its array. Assumes what the toolchain declares of `write`.
 use mathlib.Core.Path.{sym}
 use native.Mathlib.Omega.{arith}
 use lib.Seq.{length-take-le}

@@ -1,4 +1,4 @@
--- `write_bytes` is safe and ends. Assumes nothing.
+-- `write_bytes` is safe and ends. Assumes what the toolchain declares of `write`.
 use Prim.Native.Nat.{_-_, _≤_}
 use native.Mathlib.Omega.{arith}
 use lib.ListN.{length}

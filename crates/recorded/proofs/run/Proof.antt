@@ -1,4 +1,4 @@
--- `run` is safe and ends. Assumes nothing.
+-- `run` is safe and ends. Assumes what the toolchain declares of `read` and `write`.
 use mathlib.Core.Path.{_≡_}
 use Prim.Native.Nat.{_≤_}
 use lib.ListN.{length}

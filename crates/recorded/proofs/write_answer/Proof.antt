@@ -1,4 +1,4 @@
--- `write_answer` writes a part of its slice. Assumes nothing.
+-- `write_answer` writes a part of its slice. Assumes what the toolchain declares of `write`.
 use mathlib.Core.Path.{sym}
 use lib.Seq.{length-take-le}
 use borrow.Author.Needs.{needs}

@@ -1,4 +1,4 @@
--- `stem_lines::end` meets its contract: what `finish` wrote lies within the output. Assumes nothing.
+-- `stem_lines::end` meets its contract: what `finish` wrote lies within the output. Assumes what the toolchain declares of `write`.
 use mathlib.Core.Path.{ap, sym}
 use native.Mathlib.Omega.{arith}
 use lib.ListN.{length, length-append}

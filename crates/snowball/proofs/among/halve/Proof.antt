@@ -1,4 +1,4 @@
--- `among::halve` meets its contract. The invariant is `Half`; the measure is twice the width of the range, and one more while the first key has not been inspected by itself.
+-- `among::halve` meets its contract. The invariant is `Half`; the measure is twice the width of the range, and one more while the first key has not been inspected by itself. Assumes nothing.
 -- Assumes nothing.
 use mathlib.Core.Path.{_≡_, sym, ap, _∙_, subst}
 use mathlib.Core.Logic.{⊎-elim}
