@@ -1,4 +1,4 @@
--- `take_byte` lends the line as far as it was read. Assumes what the toolchain declares of `read` and `write`.
+-- `take_byte` lends the line as far as it was read. Assumes what the toolchain declares of `write`.
 use mathlib.Core.Path.{sym}
 use native.Mathlib.Omega.{arith}
 use lib.Seq.{length-take-le}

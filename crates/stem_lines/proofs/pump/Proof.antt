@@ -1,4 +1,4 @@
--- `stem_lines::pump` meets its contract: from turn to turn the state is that of the bytes passed. Assumes what the toolchain declares of `read` and `write`.
+-- `stem_lines::pump` meets its contract: from turn to turn the state is that of the bytes passed. Assumes what the toolchain declares of `write`.
 use mathlib.Core.Path.{_≡_, refl, sym, ap, _∙_}
 use Prim.Native.Nat.{_-_, _≤_}
 use native.Mathlib.Omega.{arith}
