@@ -1,12 +1,13 @@
 -- What is shown of the order of the steps: the main theorems of this crate. Assumes nothing.
 use mathlib.Core.Path.{_≡_}
+use mathlib.Core.List.{map}
 use Rattle.definition.specs.Words.{Word}
 use Rattle.definition.specs.Kind.{DEFINED, kind}
 use Rattle.definition.specs.Stem.{stem, applied}
 use Rattle.order.specs.Order.{unexchanged, stemBy}
-use Rattle.order.specs.Settled.{AllHold, settled}
+use Rattle.order.specs.Settled.{AllHold, settled, neighbours, places, pairOf}
 use Rattle.order.proofs.Same.{same}
-use Rattle.order.proofs.Settled.{settled-hold}
+use Rattle.order.proofs.Settled.{settled-hold, settled-all}
 use Rattle.order.proofs.Defined.{AllApplied, Article, defined-fronts}
 
 -- with nothing exchanged, the stem is the definition's
@@ -16,6 +17,10 @@ main-same = same
 -- of each two neighbouring steps, exchanged: a word's stem changes, or no word's
 pub main-order : AllHold settled
 main-order = settled-hold
+
+-- the table has every pair of neighbours
+pub main-pairs : map pairOf settled ≡ neighbours places
+main-pairs = settled-all
 
 -- of the fronts, a defined word meets Step3a_Noun alone
 pub main-defined : (w : Word) → kind w ≡ DEFINED → AllApplied Article (applied w)

@@ -1,5 +1,6 @@
 -- Each pair of the table: the words by computing, the others by their laws. Assumes nothing.
-use mathlib.Core.Path.{refl}
+use mathlib.Core.Path.{_≡_, refl}
+use mathlib.Core.List.{map}
 use Rattle.definition.specs.Words.{same, beginsWith, endsWith}
 use Rattle.definition.specs.Search.{longer, longest, met, taken}
 use Rattle.definition.specs.Tries.{_thenTry_, firstOf, again, attempt}
@@ -11,7 +12,7 @@ use Rattle.definition.specs.Fronts.{prefix, replacements, notAt, frontRow, repl
 use Rattle.definition.specs.Finish.{last, other, finish}
 use Rattle.definition.specs.Stem.{cutting, fronting, stemOf, stem}
 use Rattle.order.specs.Order.{exchanged, ordered, inTurn, allOf, verbBy, nounBy, maqsura, endingsBy, prefixStepsBy, lastLetter, allLetters, finishBy, stemBy}
-use Rattle.order.specs.Settled.{AllHold, settled}
+use Rattle.order.specs.Settled.{AllHold, settled, neighbours, places, pairOf}
 use Rattle.order.proofs.Kept.{verbs-0-kept, verbSequel-0-kept, nouns-0-kept, nouns-1-kept, nouns-2-kept, nouns-3-kept, step1aSequel-kept, step1bSequel-0-kept, thirds-0-kept, thirds-1-kept}
 
 pub settled-hold : AllHold settled
@@ -104,3 +105,7 @@ settled-hold = (
     ),
   ),
 )
+
+pub settled-all : map pairOf settled ≡ neighbours places
+unfolding settled
+settled-all = refl

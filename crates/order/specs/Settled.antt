@@ -1,11 +1,11 @@
 -- Each two neighbouring steps, and what comes of exchanging them: a word whose stem changes, or that no word shows it.
 use mathlib.Core.Path.{_≡_}
 use mathlib.Core.Bool.{false}
-use mathlib.Core.List.{List, [], _∷_}
-use Prim.Native.Nat.{ℕ}
+use mathlib.Core.List.{List, [], _∷_, _++_}
+use Prim.Native.Nat.{ℕ, zero, suc, _-_}
 use Rattle.definition.specs.Words.{Word, same}
 use Rattle.definition.specs.Stem.{stem}
-use Rattle.order.specs.Order.{Place, way, ends, verbs, verbTurns, verbSequel, nounTurns, nouns, step1aTurns, step1aSequel, step1bTurns, step1bSequel, fronts, thirds, verbFronts, finishing, Pair, pair, stemBy}
+use Rattle.order.specs.Order.{Place, way, ends, verbs, verbTurns, verbSequel, nounTurns, nouns, step1aTurns, step1aSequel, step1bTurns, step1bSequel, fronts, thirds, verbFronts, finishing, nowhere, Pair, pair, stemBy}
 
 -- no word's stem changes
 abbrev pub Unshown : Pair → Type 0
@@ -91,3 +91,41 @@ settled =
     -- finishing: the last letter | all letters
     ∷ shown finishing 0 (0x623 ∷ []) (0x621 ∷ []) (0x627 ∷ [])
     ∷ []
+
+-- ---- all pairs of neighbours, in the same order
+
+-- how many steps stand at a place
+abbrev pub entries : Place → ℕ
+entries way = 5
+entries ends = 3
+entries verbs = 3
+entries verbTurns = 2
+entries verbSequel = 3
+entries nounTurns = 2
+entries nouns = 6
+entries step1aTurns = 2
+entries step1aSequel = 4
+entries step1bTurns = 2
+entries step1bSequel = 3
+entries fronts = 3
+entries thirds = 3
+entries verbFronts = 2
+entries finishing = 2
+entries nowhere = 0
+
+-- the first n pairs of a place from its pair i on
+abbrev pub pairsFrom : Place → ℕ → ℕ → List Pair
+pairsFrom p i zero = []
+pairsFrom p i (suc n) = pair p i ∷ pairsFrom p (suc i) n
+
+abbrev pub neighbours : List Place → List Pair
+neighbours [] = []
+neighbours (p ∷ ps) = pairsFrom p 0 (entries p - 1) ++ neighbours ps
+
+abbrev pub places : List Place
+places =
+    way ∷ ends ∷ verbs ∷ verbTurns ∷ verbSequel ∷ nounTurns ∷ nouns ∷ step1aTurns ∷ step1aSequel ∷ step1bTurns ∷ step1bSequel ∷ fronts ∷ thirds ∷ verbFronts ∷ finishing ∷ []
+
+abbrev pub pairOf : Verdict → Pair
+pairOf (shown p i w s t) = pair p i
+pairOf (unshown p i) = pair p i
