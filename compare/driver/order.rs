@@ -3,8 +3,10 @@
 // taken; compare/order builds and starts it. WORDS is the number of random words.
 
 mod order_model;
+mod random;
 
 use order_model::*;
+use random::Random;
 use std::io::{self, BufRead, Write};
 
 /// A model for every pair of neighbours.
@@ -17,20 +19,7 @@ fn shortened(keys: &'static [u16]) -> Vec<Model> {
     STEPS[..STEPS.len() - 1].iter().flat_map(|step| (0..step.rows.len()).map(move |row| Model::new(keys, NOWHERE, 0, step.number, row))).collect()
 }
 
-struct Random(u64);
-
 impl Random {
-    fn below(&mut self, n: usize) -> usize {
-        self.0 ^= self.0 << 13;
-        self.0 ^= self.0 >> 7;
-        self.0 ^= self.0 << 17;
-        ((self.0.wrapping_mul(0x2545F4914F6CDD1D) >> 32) as usize) % n
-    }
-
-    fn pick<T: Copy>(&mut self, from: &[T]) -> T {
-        from[self.below(from.len())]
-    }
-
     fn chance(&mut self, percent: usize) -> bool {
         self.below(100) < percent
     }
@@ -187,7 +176,7 @@ fn turned_words(base: &mut Model, searches: &mut [Search]) -> u64 {
 }
 
 fn search(seed: u64, words: u64) {
-    let mut random = Random((seed ^ 0x9E3779B97F4A7C15).wrapping_mul(0xBF58476D1CE4E5B9) | 1);
+    let mut random = Random::seeded(seed);
     let keys = keys();
     let mut base = Model::new(keys, NOWHERE, 0, NO_STEP, 0);
     let mut searches: Vec<Search> = pairs(keys).into_iter().chain(shortened(keys)).map(Search::new).collect();

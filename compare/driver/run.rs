@@ -8,6 +8,8 @@ mod check;
 mod interface;
 #[path = "source/mod.rs"]
 mod snowball;
+#[path = "random.rs"]
+mod random;
 #[path = "words.rs"]
 mod words;
 

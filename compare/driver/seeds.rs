@@ -2,6 +2,8 @@
 
 #[path = "source/mod.rs"]
 mod snowball;
+#[path = "random.rs"]
+mod random;
 #[path = "words.rs"]
 mod words;
 
