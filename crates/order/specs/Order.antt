@@ -120,52 +120,62 @@ abbrev pub changed : (Kind → Word → Word) → Under → Under
 changed f u = record { is = u .is; word = f (u .is) (u .word) }
 
 module _ (x : Pair) where
-  unfoldable pub verbBy : Step Cutting
-  verbBy v = firstOf (ordered x verbs (
-      inTurn (ordered x verbTurns (
-      (cut verbStep1 thenTry again (length (v .text)) (cut verbStep1))
-      ∷ firstOf (ordered x verbSequel (cut verbStep2a ∷ cut verbStep2c ∷ nothing ∷ []))
-      ∷ []))
-      ∷ cut verbStep2b
-      ∷ cut verbStep2a
-      ∷ [])) v
+  -- ---- the verb
+  abbrev pub verbSequelBy : Step Cutting
+  verbSequelBy = firstOf (ordered x verbSequel (cut verbStep2a ∷ cut verbStep2c ∷ nothing ∷ []))
 
-  unfoldable pub nounBy : Kind → Step Cutting
-  nounBy k = inTurn (ordered x nounTurns (
-      firstOf (ordered x nouns (
-      cut nounStep2c2
-      ∷ ifOpen k (inTurn (ordered x step1aTurns (
+  -- n bounds the number of cuts
+  abbrev pub verbTurnsBy : ℕ → Step Cutting
+  verbTurnsBy n = inTurn (ordered x verbTurns ((cut verbStep1 thenTry again n (cut verbStep1)) ∷ verbSequelBy ∷ []))
+
+  unfoldable pub verbBy : Step Cutting
+  verbBy v = firstOf (ordered x verbs (verbTurnsBy (length (v .text)) ∷ cut verbStep2b ∷ cut verbStep2a ∷ [])) v
+
+  -- ---- the noun
+  abbrev pub step1aBy : Step Cutting
+  step1aBy = inTurn (ordered x step1aTurns (
       cut nounStep1a
       ∷ firstOf (ordered x step1aSequel (cut nounStep2a ∷ cut nounStep2b ∷ cut nounStep2c1 ∷ nothing ∷ []))
-      ∷ [])))
-      ∷ inTurn (ordered x step1bTurns (
+      ∷ []))
+
+  abbrev pub step1bBy : Step Cutting
+  step1bBy = inTurn (ordered x step1bTurns (
       cut nounStep1b
       ∷ firstOf (ordered x step1bSequel (cut nounStep2a ∷ cut nounStep2b ∷ cut nounStep2c1 ∷ []))
       ∷ []))
+
+  abbrev pub nounFirstBy : Kind → Step Cutting
+  nounFirstBy k = firstOf (ordered x nouns (
+      cut nounStep2c2
+      ∷ ifOpen k step1aBy
+      ∷ step1bBy
       ∷ ifOpen k (cut nounStep2a)
       ∷ cut nounStep2b
       ∷ nothing
       ∷ []))
-      ∷ cut nounStep3
-      ∷ []))
 
+  unfoldable pub nounBy : Kind → Step Cutting
+  nounBy k = inTurn (ordered x nounTurns (nounFirstBy k ∷ cut nounStep3 ∷ []))
+
+  -- ---- item 3
   unfoldable pub endingsBy : Kind → Word → Try Cutting
   endingsBy k n = firstOf (ordered x ends (ifOpen k verbBy ∷ nounBy k ∷ maqsura ∷ [])) (record { text = n; cuts = [] })
 
-  unfoldable pub prefixStepsBy : Kind → Step Fronting
-  prefixStepsBy k = inTurn (ordered x fronts (
-      attempt (apply prefixStep1)
-      ∷ attempt (apply prefixStep2)
-      ∷ firstOf (map fromHere (ordered x thirds (
-      apply prefixStep3aNoun
-      ∷ apply prefixStep3bNoun
-      ∷ ifOpen k (inTurn (ordered x verbFronts (attempt (apply prefixStep3Verb) ∷ apply prefixStep4Verb ∷ [])))
-      ∷ [])))
-      ∷ []))
+  -- ---- item 4
+  abbrev pub verbFrontsBy : Step Fronting
+  verbFrontsBy = inTurn (ordered x verbFronts (attempt (apply prefixStep3Verb) ∷ apply prefixStep4Verb ∷ []))
 
+  abbrev pub thirdsBy : Kind → Step Fronting
+  thirdsBy k = firstOf (map fromHere (ordered x thirds (apply prefixStep3aNoun ∷ apply prefixStep3bNoun ∷ ifOpen k verbFrontsBy ∷ [])))
+
+  unfoldable pub prefixStepsBy : Kind → Step Fronting
+  prefixStepsBy k = inTurn (ordered x fronts (attempt (apply prefixStep1) ∷ attempt (apply prefixStep2) ∷ thirdsBy k ∷ []))
+
+  -- ---- item 5
   unfoldable pub finishBy : Word → Word
   finishBy w = allOf (ordered x finishing (lastLetter ∷ allLetters ∷ [])) w
 
+  -- ---- a word's way
   unfoldable pub stemBy : Word → Word
   stemBy w = allOf (ordered x way (
       (λ (u : Under). record { is = kind (u .word); word = u .word })
