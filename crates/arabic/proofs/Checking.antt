@@ -6,7 +6,7 @@ use Prim.Native.Nat.{ℕ, _≤_, _<_}
 use lib.ListN.{length}
 use Rattle.definition.specs.Words.{Word, beginsWith}
 use Rattle.definition.specs.Tables.{«A_3»}
-use Rattle.definition.specs.Search.{Rule, rule, longest, guard, taken}
+use Rattle.definition.specs.Search.{Rule, rule, longest, leastLetters, taken}
 use Rattle.definition.specs.Kind.{OPEN, DEFINED, kindBy, kind}
 use Rattle.snowball.specs.declared.among.Found.{Found}
 use Rattle.snowball.specs.Search.{Ahead}
@@ -24,7 +24,7 @@ module _ (w : Word) (at : ℕ) (f : Found) (a : Ahead «A_3» w at f) where
   pub no-row : f .class ≡ 0 → flags OPEN ≡ flags (kind w)
   no-row h = by-row none (no-class (beginsWith w) check (length w) (f .class) (a .class) h)
 
-  module _ (some1 : f .class ≡ 0 → ⊥) (n g : ℕ) (en : n ≡ length w) (eg : g ≡ guard (5 ∷ 4 ∷ []) (f .class)) where
+  module _ (some1 : f .class ≡ 0 → ⊥) (n g : ℕ) (en : n ≡ length w) (eg : g ≡ leastLetters (5 ∷ 4 ∷ []) (f .class)) where
     pub too-short : n < g → flags OPEN ≡ flags (kind w)
     too-short h = by-row none (too-few (beginsWith w) check (length w) (f .class) (a .class) some1 n g en eg h)
 

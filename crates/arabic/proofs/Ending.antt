@@ -10,7 +10,7 @@ use lib.ListN.{length, take, length-append}
 use lib.Seq.{take-length, length-take-le, take-take, take-at}
 use borrow.Author.Tests.{eq-eqb, ne-eqb}
 use Rattle.definition.specs.Words.{Word, endsWith}
-use Rattle.definition.specs.Search.{rowAt, longest, guard, taken}
+use Rattle.definition.specs.Search.{rowAt, longest, leastLetters, taken}
 use Rattle.definition.specs.Endings.{SuffixStep, suffix, Cutting, ending, cutOff, cutBy, cut}
 use Rattle.definition.proofs.Match.{ends-split}
 use Rattle.definition.proofs.Found.{taken-some}
@@ -35,7 +35,7 @@ module _ (s : SuffixStep) (w : Word) (limit : ℕ) (f : Found) (b : Behind (suff
   pub no-row : f .class ≡ 0 → limit ≡ endingAt s w limit
   no-row h = begins-at none (no-class (endsWith w) (suffix s) (length w) (f .class) (b .class) h)
 
-  module _ (some1 : f .class ≡ 0 → ⊥) (n g : ℕ) (en : n ≡ length w) (eg : g ≡ guard (suffix s .guards) (f .class)) where
+  module _ (some1 : f .class ≡ 0 → ⊥) (n g : ℕ) (en : n ≡ length w) (eg : g ≡ leastLetters (suffix s .guards) (f .class)) where
     pub too-short : n < g → limit ≡ endingAt s w limit
     too-short h = begins-at none (too-few (endsWith w) (suffix s) (length w) (f .class) (b .class) some1 n g en eg h)
 

@@ -9,9 +9,9 @@ use lib.Dec.{leb, eqb}
 use lib.ListN.{length, take, drop, getD, length-append, length-take}
 use lib.Seq.{take-nil, drop-append-add, drop-append-seam, take-append-seam}
 use borrow.Author.Tests.{leb-true, eqb-true}
-use Rattle.definition.specs.Words.{Word, pick, both, all, beginsWith}
+use Rattle.definition.specs.Words.{Word, pick, both, every, beginsWith}
 use Rattle.definition.specs.Tables.{Row, «A_4», «A_5», «A_6», «A_7», «A_8», «A_9»}
-use Rattle.definition.specs.Search.{rowAt, guard, taken}
+use Rattle.definition.specs.Search.{rowAt, leastLetters, taken}
 use Rattle.definition.specs.Tries.{failed}
 use Rattle.definition.specs.Fronts.{PrefixStep, prefixStep1, prefixStep2, prefixStep3aNoun, prefixStep3bNoun, prefixStep3Verb, prefixStep4Verb, prefix, replacements, notAt, Applied, frontRow, replacement, Fronting, text, passing, headed, change, beginsWithAny, applyBy, applyUnless, apply, started}
 use Rattle.definition.proofs.Match.{by, by-le, both-0, both-1, begins-split}
@@ -45,7 +45,7 @@ module _ (s : PrefixStep) (t rest : Word) (at : ℕ) (f : Found) (a : Ahead (pre
   pub no-row : f .class ≡ 0 → Takes s t rest at (record { class = 0; cursor = at })
   no-row h = none-taken (no-class (beginsWith rest) (prefix s) (length t) (f .class) (a .class) h)
 
-  module _ (some1 : f .class ≡ 0 → ⊥) (n g : ℕ) (en : n ≡ length t) (eg : g ≡ guard (prefix s .guards) (f .class)) where
+  module _ (some1 : f .class ≡ 0 → ⊥) (n g : ℕ) (en : n ≡ length t) (eg : g ≡ leastLetters (prefix s .guards) (f .class)) where
     pub too-short : n < g → Takes s t rest at (record { class = 0; cursor = at })
     too-short h = none-taken (too-few (beginsWith rest) (prefix s) (length t) (f .class) (a .class) some1 n g en eg h)
 
@@ -63,7 +63,7 @@ rowFits s k =
     (both (low (replacedBy s k))
     (leb (size (replacedBy s k)) (size (k .letters))))))
 
-rows-fit : (s : PrefixStep) → all (rowFits s) (prefix s .table) ≡ true
+rows-fit : (s : PrefixStep) → every (rowFits s) (prefix s .table) ≡ true
 unfolding prefix replacements «A_4» «A_5» «A_6» «A_7» «A_8» «A_9» encode encode1
 rows-fit prefixStep1 = refl
 rows-fit prefixStep2 = refl
@@ -124,20 +124,20 @@ drop-take (suc a) zero (x ∷ t) = let z : 0 ≡ 0 - suc a = omega arith in ap (
 drop-take (suc a) (suc b) (x ∷ t) = let z : b - a ≡ suc b - suc a = omega arith in drop-take a b t ∙ ap (λ (n : ℕ). take n (drop a t)) z
 
 module _ (x : Env) (w : Fronting) (st : Fronts x w) where
-  split : text w ≡ (w .head ++ w .passed) ++ w .rest
-  split = sym (append-assoc (w .head) (w .passed) (w .rest))
+  split : text w ≡ (w .headLetter ++ w .passed) ++ w .rest
+  split = sym (append-assoc (w .headLetter) (w .passed) (w .rest))
 
   rest-is : drop (cursorOf w) (text w) ≡ w .rest
-  rest-is = ap (drop (cursorOf w)) split ∙ drop-append-seam (w .head ++ w .passed) (w .rest)
+  rest-is = ap (drop (cursorOf w)) split ∙ drop-append-seam (w .headLetter ++ w .passed) (w .rest)
 
   text-length : length (text w) ≡ cursorOf w + length (w .rest)
-  text-length = ap length split ∙ length-append (w .head ++ w .passed) (w .rest)
+  text-length = ap length split ∙ length-append (w .headLetter ++ w .passed) (w .rest)
 
   pub front-fits : (x .cursor ≤ x .limit) × (x .limit ≤ 340)
   front-fits = (cursor-within x (atFront w) st, st .within)
 
   pub rest-scalars : Scalars (w .rest)
-  rest-scalars = scalars-right (w .head ++ w .passed) (w .rest) (subst Scalars split (st .scalars))
+  rest-scalars = scalars-right (w .headLetter ++ w .passed) (w .rest) (subst Scalars split (st .scalars))
 
   pub rest-bytes : between (x .current) (x .cursor) (x .limit) ≡ encode (w .rest)
   unfolding between
@@ -301,14 +301,14 @@ pub passing-in-place : (f : Fronting) (m : Applied) → InPlace f m (passing f m
 passing-in-place f m = record {
   text =
       (λ i. take (cursorOf f) (before i) ++ replacement m ++ drop (cursorOf f + length (frontRow m)) (before i))
-      ∙ (λ i. take-append-seam (f .head ++ f .passed) (f .rest) i ++ replacement m ++ drop-append-add (f .head ++ f .passed) (f .rest) (length (frontRow m)) i)
-      ∙ ap (λ (x : Word). x ++ drop (length (frontRow m)) (f .rest)) (append-assoc (f .head) (f .passed) (replacement m))
-      ∙ append-assoc (f .head) (f .passed ++ replacement m) (drop (length (frontRow m)) (f .rest));
-  cursor = sym (ap length (sym (append-assoc (f .head) (f .passed) (replacement m))) ∙ length-append (f .head ++ f .passed) (replacement m));
+      ∙ (λ i. take-append-seam (f .headLetter ++ f .passed) (f .rest) i ++ replacement m ++ drop-append-add (f .headLetter ++ f .passed) (f .rest) (length (frontRow m)) i)
+      ∙ ap (λ (x : Word). x ++ drop (length (frontRow m)) (f .rest)) (append-assoc (f .headLetter) (f .passed) (replacement m))
+      ∙ append-assoc (f .headLetter) (f .passed ++ replacement m) (drop (length (frontRow m)) (f .rest));
+  cursor = sym (ap length (sym (append-assoc (f .headLetter) (f .passed) (replacement m))) ∙ length-append (f .headLetter ++ f .passed) (replacement m));
 }
   where
-    before : text f ≡ (f .head ++ f .passed) ++ f .rest
-    before = sym (append-assoc (f .head) (f .passed) (f .rest))
+    before : text f ≡ (f .headLetter ++ f .passed) ++ f .rest
+    before = sym (append-assoc (f .headLetter) (f .passed) (f .rest))
 
 -- Step1, at the start
 pub headed-in-place : (w : Word) (m : Applied) → InPlace (started w) m (headed (started w) m)

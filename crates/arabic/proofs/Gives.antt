@@ -9,7 +9,7 @@ use lib.ListN.{getD}
 use borrow.Author.Tests.{ltb-true, ne-eqb, lt-ltb, le-ltb}
 use Rattle.utf8.specs.Utf8.{Scalar, Scalars, encode1, encode}
 use Rattle.utf8.proofs.Text.{encode-one, encode-append, scalars-append}
-use Rattle.definition.specs.Words.{Word, all, same}
+use Rattle.definition.specs.Words.{Word, every, same}
 use Rattle.definition.specs.Tables.{Row, Table}
 use Rattle.definition.specs.Normal.{gives, listedFor, given, normal, normalise}
 use Rattle.definition.proofs.Match.{both-0, both-1, by, same-eq}
@@ -20,18 +20,18 @@ use Rattle.arabic.proofs.Table.{kept, normal-class}
 
 -- a property of no letters and of every row's letters is one of what is listed for a class
 listed : (P : Word → Type 0) (p : Row → Bool) → P [] → ((r : Row) → p r ≡ true → P (r .letters))
-    → (t : Table) → all p t ≡ true → (k : ℕ) → P (listedFor t k)
+    → (t : Table) → every p t ≡ true → (k : ℕ) → P (listedFor t k)
 unfolding listedFor
 listed P p n f [] e k = n
 listed P p n f (r ∷ t) e k =
-    by (eqb (r .class) k) (λ b. rw b (f r (both-0 (p r) (all p t) e))) (λ b. rw b (listed P p n f t (both-1 (p r) (all p t) e) k))
+    by (eqb (r .class) k) (λ b. rw b (f r (both-0 (p r) (every p t) e))) (λ b. rw b (listed P p n f t (both-1 (p r) (every p t) e) k))
 
 -- ---- packing keeps the letters
 
 abbrev keeps : Row → Bool
 keeps r = same (unpacked (packed (r .letters))) (r .letters)
 
-all-keep : all keeps gives ≡ true
+all-keep : every keeps gives ≡ true
 unfolding gives same
 all-keep = refl
 
@@ -66,7 +66,7 @@ no-bytes = refl
 two-bytes : (x y : ℕ) → encode (x ∷ y ∷ []) ≡ encode1 x ++ encode1 y
 two-bytes x y = encode-append (x ∷ []) (y ∷ []) ∙ rw (encode-one x, encode-one y)
 
-all-short : all (λ (r : Row). ltb (packed (r .letters)) 0x10000000) gives ≡ true
+all-short : every (λ (r : Row). ltb (packed (r .letters)) 0x10000000) gives ≡ true
 unfolding gives
 all-short = refl
 
@@ -94,7 +94,7 @@ module _ (c k v : ℕ) (e : v ≡ getD packedGives k 0) (l : k < 56) (h : k ≡ 
 
 -- ---- what is given are scalar values
 
-all-low : all (λ (r : Row). low (r .letters)) gives ≡ true
+all-low : every (λ (r : Row). low (r .letters)) gives ≡ true
 unfolding gives
 all-low = refl
 

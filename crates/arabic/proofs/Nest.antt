@@ -3,7 +3,7 @@ use mathlib.Core.Path.{_≡_, refl, sym, _∙_}
 use mathlib.Core.Bool.{true, false, false≢true}
 use mathlib.Core.List.{[], _∷_}
 use lib.ListN.{length}
-use Rattle.definition.specs.Tries.{Try, done, failed, Step, after, andThen, orElse, nothing, _thenTry_, attempt, again, firstOf}
+use Rattle.definition.specs.Tries.{Try, done, failed, Step, after, andThen, ifFailed, nothing, _thenTry_, attempt, again, firstOf}
 use Rattle.definition.specs.Endings.{Cutting, cut, verbStep1, verbStep2a, verbStep2b, verbStep2c, nounStep1a, nounStep1b, nounStep2a, nounStep2b, nounStep2c1, nounStep3, verb, noun, endings, suffixAllAlefMaqsura, maqsuraIfFailed}
 use Rattle.definition.specs.Words.{Word}
 use Rattle.definition.specs.Fronts.{Fronting, prefixStep1, prefixStep2, prefixStep3aNoun, prefixStep3bNoun, prefixStep3Verb, prefixStep4Verb, apply, prefixSteps}
@@ -21,11 +21,11 @@ pub ready : (t : Tried) → Given t → Ready (t .env)
 ready t g = (after (g .0), g .1 .env)
 
 module _ {A : Type 0} {S : Env → A → Type 0} (t : Tried) where
-  pub or-yes : (g : Step A) → t .found ≡ true → (y : Try A) → Answers S t y → Answers S t (orElse y g)
+  pub or-yes : (g : Step A) → t .found ≡ true → (y : Try A) → Answers S t y → Answers S t (ifFailed y g)
   or-yes g e (done a) h = h
   or-yes g e (failed a) h = absurd (false≢true (sym (h .found) ∙ e))
 
-  pub or-no : (r : Tried) (g : Step A) → t .found ≡ false → ((v : A) → S (t .env) v → Answers S r (g v)) → (y : Try A) → Answers S t y → Answers S r (orElse y g)
+  pub or-no : (r : Tried) (g : Step A) → t .found ≡ false → ((v : A) → S (t .env) v → Answers S r (g v)) → (y : Try A) → Answers S t y → Answers S r (ifFailed y g)
   or-no r g e k (done a) h = absurd (false≢true (sym e ∙ h .found))
   or-no r g e k (failed a) h = k a (h .env)
 
@@ -37,25 +37,25 @@ module _ {A : Type 0} {S : Env → A → Type 0} (t : Tried) where
   then-no g e (done a) h = absurd (false≢true (sym e ∙ h .found))
   then-no g e (failed a) h = h
 
-  pub or-nothing : (y : Try A) → Answers S t y → Answers S (record { found = true; env = t .env }) (orElse y nothing)
+  pub or-nothing : (y : Try A) → Answers S t y → Answers S (record { found = true; env = t .env }) (ifFailed y nothing)
   or-nothing (done a) h = record { found = refl; env = h .env }
   or-nothing (failed a) h = record { found = refl; env = h .env }
 
 -- ---- the verb, as straight-line code tries it
-pub after-step1-is : (v : Cutting) → orElse (orElse (cut verbStep2a v) (cut verbStep2c)) nothing ≡ afterStep1 v
+pub after-step1-is : (v : Cutting) → ifFailed (ifFailed (cut verbStep2a v) (cut verbStep2c)) nothing ≡ afterStep1 v
 unfolding afterStep1
 after-step1-is v = sym (first-from (cut verbStep2a) (cut verbStep2c ∷ nothing ∷ []) v)
 
-pub verb-is : (v : Cutting) → orElse (orElse (andThen (andThen (cut verbStep1 v) (again (length (v .text)) (cut verbStep1))) afterStep1) (cut verbStep2b)) (cut verbStep2a) ≡ verb v
+pub verb-is : (v : Cutting) → ifFailed (ifFailed (andThen (andThen (cut verbStep1 v) (again (length (v .text)) (cut verbStep1))) afterStep1) (cut verbStep2b)) (cut verbStep2a) ≡ verb v
 unfolding verb afterStep1 _thenTry_
 verb-is v = sym (first-from (cut verbStep1 thenTry again (length (v .text)) (cut verbStep1) thenTry afterStep1) (cut verbStep2b ∷ cut verbStep2a ∷ []) v)
 
 -- ---- the noun
-pub after-step1b-is : (v : Cutting) → orElse (orElse (cut nounStep2a v) (cut nounStep2b)) (cut nounStep2c1) ≡ afterStep1b v
+pub after-step1b-is : (v : Cutting) → ifFailed (ifFailed (cut nounStep2a v) (cut nounStep2b)) (cut nounStep2c1) ≡ afterStep1b v
 unfolding afterStep1b
 after-step1b-is v = sym (first-from (cut nounStep2a) (cut nounStep2b ∷ cut nounStep2c1 ∷ []) v)
 
-pub after-step1a-is : (v : Cutting) → orElse (orElse (orElse (cut nounStep2a v) (cut nounStep2b)) (cut nounStep2c1)) nothing ≡ afterStep1a v
+pub after-step1a-is : (v : Cutting) → ifFailed (ifFailed (ifFailed (cut nounStep2a v) (cut nounStep2b)) (cut nounStep2c1)) nothing ≡ afterStep1a v
 unfolding afterStep1a
 after-step1a-is v = sym (first-from (cut nounStep2a) (cut nounStep2b ∷ cut nounStep2c1 ∷ nothing ∷ []) v)
 
@@ -72,18 +72,18 @@ unfolding noun nounFirst byStep1a byStep1b afterStep1a afterStep1b _thenTry_
 noun-is k v = refl
 
 -- the last alternative is nothing
-pub last-nothing : {A : Type 0} (y : Try A) → orElse y nothing ≡ orElse y (firstOf (nothing ∷ []))
+pub last-nothing : {A : Type 0} (y : Try A) → ifFailed y nothing ≡ ifFailed y (firstOf (nothing ∷ []))
 unfolding firstOf
 last-nothing (done a) = refl
 last-nothing (failed a) = refl
 
 -- a step that is not for this word
-pub not-open : {A : Type 0} {S : Env → A → Type 0} (t : Tried) (f : Step A) → t .found ≡ false → (y : Try A) → Answers S t y → Answers S t (orElse y (ifOpen DEFINED f))
+pub not-open : {A : Type 0} {S : Env → A → Type 0} (t : Tried) (f : Step A) → t .found ≡ false → (y : Try A) → Answers S t y → Answers S t (ifFailed y (ifOpen DEFINED f))
 not-open t f e (done a) h = absurd (false≢true (sym e ∙ h .found))
 not-open t f e (failed a) h = h
 
 -- ---- item 3
-pub endings-is : (k : Kind) (w : Word) → orElse (ifOpen k verb (uncut w)) (noun k) ≡ endings k w
+pub endings-is : (k : Kind) (w : Word) → ifFailed (ifOpen k verb (uncut w)) (noun k) ≡ endings k w
 unfolding endings
 endings-is k w = sym (first-from (ifOpen k verb) (noun k ∷ []) (uncut w))
 
@@ -107,6 +107,6 @@ unfolding verbSteps attempt _thenTry_
 verb-steps-is w = refl
 
 pub prefix-steps-is : (k : Kind) (w : Fronting)
-    → orElse (orElse (apply prefixStep3aNoun (after (apply prefixStep2 (after (apply prefixStep1 w))))) (apply prefixStep3bNoun)) (ifOpen k verbSteps) ≡ prefixSteps k w
+    → ifFailed (ifFailed (apply prefixStep3aNoun (after (apply prefixStep2 (after (apply prefixStep1 w))))) (apply prefixStep3bNoun)) (ifOpen k verbSteps) ≡ prefixSteps k w
 unfolding prefixSteps verbSteps attempt _thenTry_
 prefix-steps-is k w = sym (first-from (apply prefixStep3aNoun) (apply prefixStep3bNoun ∷ ifOpen k verbSteps ∷ []) (after (apply prefixStep2 (after (apply prefixStep1 w)))))

@@ -11,7 +11,7 @@ use lib.ListN.{length, getD, length-append, List·getD-map}
 use borrow.Author.Tests.{ltb-true, leb-true}
 use Rattle.utf8.specs.Utf8.{encode1, encode}
 use Rattle.utf8.proofs.Text.{encode-one, encode-append}
-use Rattle.definition.specs.Words.{Word, both, all, beginsWith}
+use Rattle.definition.specs.Words.{Word, both, every, beginsWith}
 use Rattle.definition.specs.Tables.{Row, «A_0»}
 use Rattle.definition.specs.Search.{rowAt}
 use Rattle.definition.specs.Normal.{gives, listedFor, given, normal, normalise}
@@ -67,7 +67,7 @@ key-at : (r : ℕ) → keyOf (rowAt «A_0» r) ≡ getD keys r 0
 unfolding keys
 key-at r = sym (List·getD-map keyOf «A_0» r none)
 
-all-single : all (λ (r : Row). single (r .letters)) «A_0» ≡ true
+all-single : every (λ (r : Row). single (r .letters)) «A_0» ≡ true
 unfolding «A_0»
 all-single = refl
 
@@ -133,10 +133,10 @@ unfolding normal classOf rowOf
 normal-class c = refl
 
 -- a test of all rows, at the row of a letter
-at-row : (p : Row → Bool) → all p «A_0» ≡ true → (c : ℕ) → rowOf c < 161 → p (rowAt «A_0» (rowOf c)) ≡ true
+at-row : (p : Row → Bool) → every p «A_0» ≡ true → (c : ℕ) → rowOf c < 161 → p (rowAt «A_0» (rowOf c)) ≡ true
 at-row p e c h = all-at p «A_0» e (rowOf c) (omega (arith, length-rows))
 
-all-small : all (λ (r : Row). ltb (r .class) 56) «A_0» ≡ true
+all-small : every (λ (r : Row). ltb (r .class) 56) «A_0» ≡ true
 unfolding «A_0»
 all-small = refl
 
@@ -149,7 +149,7 @@ class-small c = by-row c (λ h e. ltb-true (rowAt «A_0» (rowOf c) .class) 56 (
 abbrev fits : Row → Bool
 fits r = leb (3 * length (encode (given (keyOf r) (r .class)))) (4 * length (encode1 (keyOf r)))
 
-all-fit : all fits «A_0» ≡ true
+all-fit : every fits «A_0» ≡ true
 unfolding «A_0» given gives listedFor encode encode1
 all-fit = refl
 

@@ -23,7 +23,7 @@ use Rattle.arabic.specs.Tried.{Answers}
 
 -- how many letters are in front of the cursor
 abbrev pub cursorOf : Fronting → ℕ
-cursorOf f = length (f .head ++ f .passed)
+cursorOf f = length (f .headLetter ++ f .passed)
 
 abbrev pub atFront : Fronting → Chars
 atFront f = record { text = text f; cursor = cursorOf f; back = 0 }

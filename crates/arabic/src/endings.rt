@@ -8,7 +8,7 @@ ghost use Prim.Native.Nat.{_≤_};
 ghost use lib.ListN.{length, take};
 ghost use lib.Dec.{T};
 ghost use Rattle.definition.specs.Words.{Word};
-ghost use Rattle.definition.specs.Search.{guard};
+ghost use Rattle.definition.specs.Search.{leastLetters};
 ghost use Rattle.definition.specs.Endings.{SuffixStep, suffix, Cutting, cut};
 ghost use Rattle.utf8.specs.Utf8.{Scalars, encode};
 ghost use Rattle.snowball.specs.Rows.{keysBack, wellFormed, rowsOf, byteTable, plain};
@@ -23,7 +23,7 @@ pub struct Tried {
 
 // The least number of letters for a class, from class 1 on; 0 for a class that has none.
 pub fn least_letters(guards: &[u8], class: u8) -> usize
-    ensures { λ r. ⌜ r ≡ guard (now (guards .entry)) class ⌝ }
+    ensures { λ r. ⌜ r ≡ leastLetters (now (guards .entry)) class ⌝ }
 {
     if class == 0 {
         return 0;

@@ -10,7 +10,7 @@ use crate::verb::or_nothing;
 use snowball::env::Env;
 ghost use mathlib.Core.Path.{_≡_};
 ghost use mathlib.Core.Bool.{true};
-ghost use Rattle.definition.specs.Tries.{Try, orElse, andThen};
+ghost use Rattle.definition.specs.Tries.{Try, ifFailed, andThen};
 ghost use Rattle.definition.specs.Kind.{ifOpen};
 ghost use Rattle.definition.specs.Endings.{Cutting, cut, nounStep2a, nounStep2b, nounStep2c1, noun};
 ghost use Rattle.arabic.specs.Endings.{Ends, Ready, Gives, Given};
@@ -21,7 +21,7 @@ ghost use Rattle.arabic.specs.Nests.{afterStep1a, afterStep1b, byStep1a,
 
 fn or_Step2b(t: Tried) -> Tried
     requires { ⌜ Given t ⌝ }
-    ensures { λ r. ⌜ ((y : Try Cutting) → Gives t y → Gives r (orElse y (cut nounStep2b))) ⌝ }
+    ensures { λ r. ⌜ ((y : Try Cutting) → Gives t y → Gives r (ifFailed y (cut nounStep2b))) ⌝ }
 {
     if t.found {
         return t;
@@ -32,7 +32,7 @@ fn or_Step2b(t: Tried) -> Tried
 
 fn or_Step2c1(t: Tried) -> Tried
     requires { ⌜ Given t ⌝ }
-    ensures { λ r. ⌜ ((y : Try Cutting) → Gives t y → Gives r (orElse y (cut nounStep2c1))) ⌝ }
+    ensures { λ r. ⌜ ((y : Try Cutting) → Gives t y → Gives r (ifFailed y (cut nounStep2c1))) ⌝ }
 {
     if t.found {
         return t;

@@ -4,7 +4,7 @@ use crate::noun::noun;
 use crate::verb::verb;
 use snowball::env::Env;
 ghost use Rattle.definition.specs.Words.{Word};
-ghost use Rattle.definition.specs.Tries.{Try, after, orElse};
+ghost use Rattle.definition.specs.Tries.{Try, after, ifFailed};
 ghost use Rattle.definition.specs.Kind.{ifOpen};
 ghost use Rattle.definition.specs.Endings.{Cutting, verb, noun, endings, maqsuraIfFailed};
 ghost use Rattle.snowball.specs.Stands.{Stands};
@@ -26,7 +26,7 @@ fn open_verb(env: Env, b_is_defined: bool) -> Tried
 
 fn or_noun(t: Tried, b_is_defined: bool) -> Tried
     requires { ⌜ Given t ⌝ }
-    ensures { λ r. ⌜ ((y : Try Cutting) → Gives t y → Gives r (orElse y (noun (kindOf «b_is_defined»)))) ⌝ }
+    ensures { λ r. ⌜ ((y : Try Cutting) → Gives t y → Gives r (ifFailed y (noun (kindOf «b_is_defined»)))) ⌝ }
 {
     if t.found {
         return t;

@@ -8,7 +8,7 @@ ghost use mathlib.Core.Path.{_≡_};
 ghost use mathlib.Core.Bool.{true};
 ghost use Prim.Native.Nat.{ℕ, _≤_};
 ghost use lib.ListN.{length};
-ghost use Rattle.definition.specs.Tries.{Try, done, orElse, nothing, again};
+ghost use Rattle.definition.specs.Tries.{Try, done, ifFailed, nothing, again};
 ghost use Rattle.definition.specs.Endings.{Cutting, cut, verbStep1, verbStep2c, verb};
 ghost use Rattle.arabic.specs.Endings.{Ends, Ready, Gives, Given};
 ghost use Rattle.arabic.specs.Nests.{afterStep1};
@@ -34,7 +34,7 @@ fn repeat_Step1(env: Env) -> Env
 
 fn or_Step2c(t: Tried) -> Tried
     requires { ⌜ Given t ⌝ }
-    ensures { λ r. ⌜ ((y : Try Cutting) → Gives t y → Gives r (orElse y (cut verbStep2c))) ⌝ }
+    ensures { λ r. ⌜ ((y : Try Cutting) → Gives t y → Gives r (ifFailed y (cut verbStep2c))) ⌝ }
 {
     if t.found {
         return t;
@@ -47,7 +47,7 @@ fn or_Step2c(t: Tried) -> Tried
 // and the noun's Step1a (docs/DECISIONS.md, 18).
 pub fn or_nothing(t: Tried) -> Tried
     requires { ⌜ Given t ⌝ }
-    ensures { λ r. ⌜ (r .found ≡ true) × ((y : Try Cutting) → Gives t y → Gives r (orElse y nothing)) ⌝ }
+    ensures { λ r. ⌜ (r .found ≡ true) × ((y : Try Cutting) → Gives t y → Gives r (ifFailed y nothing)) ⌝ }
 {
     let x = t.env;
     Tried {

@@ -92,38 +92,38 @@ module _ (y : Try Cutting) (ms : List Applied) (run : Word) (four : isApplied pr
           near (suc j ≡ length run) (Failed y) (At j) (getD run j 0) (getD (maqsuraIfFailed y run) j 0) (λ a. false≢true (sym e ∙ a .0)) (maqsura-if-at y run j h)
 
   -- the head letter stands before the run and has the run's letters behind it
-  module _ (head : Word) (some : length head ≤ length run) where
+  module _ (headLetter : Word) (some : length headLetter ≤ length run) where
     abbrev AtI : ℕ → Type 0
-    AtI i = (isApplied prefixStep4Verb ms ≡ true) × (i ≡ length head + place ms)
+    AtI i = (isApplied prefixStep4Verb ms ≡ true) × (i ≡ length headLetter + place ms)
 
     abbrev Text : Word
-    Text = head ++ fourth ms (maqsuraIfFailed y run)
+    Text = headLetter ++ fourth ms (maqsuraIfFailed y run)
 
-    text-at : (i : ℕ) → i < length (head ++ run) → Near (suc i ≡ length (head ++ run)) (Failed y) (AtI i) (getD (head ++ run) i 0) (getD Text i 0)
-    text-at i h = by (ltb i (length head))
+    text-at : (i : ℕ) → i < length (headLetter ++ run) → Near (suc i ≡ length (headLetter ++ run)) (Failed y) (AtI i) (getD (headLetter ++ run) i 0) (getD Text i 0)
+    text-at i h = by (ltb i (length headLetter))
         (λ t.
-        let l = ltb-true i (length head) t in
-        let la = length-append head run in
+        let l = ltb-true i (length headLetter) t in
+        let la = length-append headLetter run in
         same (λ e z q. omega arith) (λ a. let b = a .1 in omega arith)
-        (List·getD-append head (fourth ms (maqsuraIfFailed y run)) 0 i l ∙ sym (List·getD-append head run 0 i l)))
+        (List·getD-append headLetter (fourth ms (maqsuraIfFailed y run)) 0 i l ∙ sym (List·getD-append headLetter run 0 i l)))
         (λ t.
-        let l = ltb-false i (length head) t in
-        let j : ℕ = i - length head in
-        let q : i ≡ length head + j = omega arith in
-        let la = length-append head run in
-        subst (λ (x : ℕ). Near (suc x ≡ length (head ++ run)) (Failed y) (AtI x) (getD (head ++ run) x 0) (getD Text x 0)) (sym q) (shift j (run-at j (omega arith))))
+        let l = ltb-false i (length headLetter) t in
+        let j : ℕ = i - length headLetter in
+        let q : i ≡ length headLetter + j = omega arith in
+        let la = length-append headLetter run in
+        subst (λ (x : ℕ). Near (suc x ≡ length (headLetter ++ run)) (Failed y) (AtI x) (getD (headLetter ++ run) x 0) (getD Text x 0)) (sym q) (shift j (run-at j (omega arith))))
       where
         shift : (j : ℕ) → Near (suc j ≡ length run) (Failed y) (At j) (getD run j 0) (getD (fourth ms (maqsuraIfFailed y run)) j 0)
-            → Near (suc (length head + j) ≡ length (head ++ run)) (Failed y) (AtI (length head + j)) (getD (head ++ run) (length head + j) 0) (getD Text (length head + j) 0)
+            → Near (suc (length headLetter + j) ≡ length (headLetter ++ run)) (Failed y) (AtI (length headLetter + j)) (getD (headLetter ++ run) (length headLetter + j) 0) (getD Text (length headLetter + j) 0)
         shift j (same m f e) =
-            let la = length-append head run in
-            let c : getD (head ++ run) (length head + j) 0 ≡ getD run j 0 = getD-append-add head run j 0 in
+            let la = length-append headLetter run in
+            let c : getD (headLetter ++ run) (length headLetter + j) 0 ≡ getD run j 0 = getD-append-add headLetter run j 0 in
             same (λ l z q. m (omega arith) z (sym c ∙ q)) (λ a. f (a .0, let b = a .1 in omega arith))
-            (getD-append-add head (fourth ms (maqsuraIfFailed y run)) j 0 ∙ e ∙ sym c)
-        shift j (maqsura l z e q) = maqsura (omega (arith, length-append head run)) z (getD-append-add head run j 0 ∙ e) (getD-append-add head (fourth ms (maqsuraIfFailed y run)) j 0 ∙ q)
+            (getD-append-add headLetter (fourth ms (maqsuraIfFailed y run)) j 0 ∙ e ∙ sym c)
+        shift j (maqsura l z e q) = maqsura (omega (arith, length-append headLetter run)) z (getD-append-add headLetter run j 0 ∙ e) (getD-append-add headLetter (fourth ms (maqsuraIfFailed y run)) j 0 ∙ q)
         shift j (verbal x e q) =
-            verbal (x .0, ap (λ (i : ℕ). length head + i) (x .1)) (subst Verbal (sym (getD-append-add head run j 0)) e)
-            (getD-append-add head (fourth ms (maqsuraIfFailed y run)) j 0 ∙ q)
+            verbal (x .0, ap (λ (i : ℕ). length headLetter + i) (x .1)) (subst Verbal (sym (getD-append-add headLetter run j 0)) e)
+            (getD-append-add headLetter (fourth ms (maqsuraIfFailed y run)) j 0 ∙ q)
 
 -- ---- item 5
 finish-at : (t : Word) (i : ℕ) → i < length t
@@ -179,23 +179,23 @@ module _ (L T F : Type 0) (c d e : ℕ) where
   at-other l q (verbal x p r) = fourth-alef x p (q ∙ ap other r)
 
 -- ---- together
-pub changed : (y : Try Cutting) (ms : List Applied) (run head : Word) → (isApplied prefixStep4Verb ms ≡ true → Fourth ms (maqsuraIfFailed y run))
-    → length head ≤ length run → (i : ℕ) → i < length (head ++ run)
-    → Change (suc i ≡ length (head ++ run)) (Failed y) ((isApplied prefixStep4Verb ms ≡ true) × (i ≡ length head + place ms)) (getD (head ++ run) i 0) (getD (finish (head ++ fourth ms (maqsuraIfFailed y run))) i 0)
-changed y ms run head four some i h =
-    go (finish-at t i (omega (arith, lt))) (text-at y ms run four head some i h)
+pub changed : (y : Try Cutting) (ms : List Applied) (run headLetter : Word) → (isApplied prefixStep4Verb ms ≡ true → Fourth ms (maqsuraIfFailed y run))
+    → length headLetter ≤ length run → (i : ℕ) → i < length (headLetter ++ run)
+    → Change (suc i ≡ length (headLetter ++ run)) (Failed y) ((isApplied prefixStep4Verb ms ≡ true) × (i ≡ length headLetter + place ms)) (getD (headLetter ++ run) i 0) (getD (finish (headLetter ++ fourth ms (maqsuraIfFailed y run))) i 0)
+changed y ms run headLetter four some i h =
+    go (finish-at t i (omega (arith, lt))) (text-at y ms run four headLetter some i h)
   where
     t : Word
-    t = head ++ fourth ms (maqsuraIfFailed y run)
+    t = headLetter ++ fourth ms (maqsuraIfFailed y run)
 
-    lt : length (head ++ fourth ms (maqsuraIfFailed y run)) ≡ length (head ++ run)
-    lt = length-append head (fourth ms (maqsuraIfFailed y run)) ∙ ap (λ (m : ℕ). length head + m) (fourth-length ms (maqsuraIfFailed y run) ∙ maqsura-if-length y run) ∙ sym (length-append head run)
+    lt : length (headLetter ++ fourth ms (maqsuraIfFailed y run)) ≡ length (headLetter ++ run)
+    lt = length-append headLetter (fourth ms (maqsuraIfFailed y run)) ∙ ap (λ (m : ℕ). length headLetter + m) (fourth-length ms (maqsuraIfFailed y run) ∙ maqsura-if-length y run) ∙ sym (length-append headLetter run)
 
     L : Type 0
-    L = suc i ≡ length (head ++ run)
+    L = suc i ≡ length (headLetter ++ run)
 
     go : ((suc i ≡ length t) × (getD (finish t) i 0 ≡ last (getD t i 0))) ⊎ ((suc i ≡ length t → ⊥) × (getD (finish t) i 0 ≡ other (getD t i 0)))
-        → Near L (Failed y) ((isApplied prefixStep4Verb ms ≡ true) × (i ≡ length head + place ms)) (getD (head ++ run) i 0) (getD t i 0)
-        → Change L (Failed y) ((isApplied prefixStep4Verb ms ≡ true) × (i ≡ length head + place ms)) (getD (head ++ run) i 0) (getD (finish t) i 0)
-    go (inl a) n = at-last L (Failed y) _ (getD (head ++ run) i 0) (getD t i 0) (getD (finish t) i 0) (a .0 ∙ lt) (a .1) n
-    go (inr a) n = at-other L (Failed y) _ (getD (head ++ run) i 0) (getD t i 0) (getD (finish t) i 0) (λ e. a .0 (e ∙ sym lt)) (a .1) n
+        → Near L (Failed y) ((isApplied prefixStep4Verb ms ≡ true) × (i ≡ length headLetter + place ms)) (getD (headLetter ++ run) i 0) (getD t i 0)
+        → Change L (Failed y) ((isApplied prefixStep4Verb ms ≡ true) × (i ≡ length headLetter + place ms)) (getD (headLetter ++ run) i 0) (getD (finish t) i 0)
+    go (inl a) n = at-last L (Failed y) _ (getD (headLetter ++ run) i 0) (getD t i 0) (getD (finish t) i 0) (a .0 ∙ lt) (a .1) n
+    go (inr a) n = at-other L (Failed y) _ (getD (headLetter ++ run) i 0) (getD t i 0) (getD (finish t) i 0) (λ e. a .0 (e ∙ sym lt)) (a .1) n

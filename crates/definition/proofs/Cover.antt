@@ -10,9 +10,9 @@ use lib.Dec.{leb, ltb}
 use lib.ListN.{length, take, drop, length-drop}
 use lib.Seq.{drop-drop}
 use borrow.Author.Tests.{leb-true, leb-false, le-leb, ltb-true}
-use Rattle.definition.specs.Words.{Word, pick, both, all, same, endsWith}
+use Rattle.definition.specs.Words.{Word, pick, both, every, same, endsWith}
 use Rattle.definition.specs.Tables.{Row}
-use Rattle.definition.specs.Search.{rowAt, longest, Rule, guard, met, taken}
+use Rattle.definition.specs.Search.{rowAt, longest, Rule, leastLetters, met, taken}
 use Rattle.definition.proofs.Match.{both-0, both-1, either, either-right, either-not, by, same-eq, same-refl, ends-split, ends-of}
 use Rattle.definition.proofs.Found.{Found, all-at, longest-found, longest-longest, no-letters}
 
@@ -42,21 +42,21 @@ compatible key k = either (endsWith key k) (endsWith k key)
 -- each row of the rule that fits the key has a letter, a class and a guard of at most bound
 abbrev coverRow : Rule → Word → ℕ → Row → Bool
 coverRow s key bound k =
-    either (not (compatible key (k .letters))) (both (leb 1 (length (k .letters))) (both (leb 1 (k .class)) (leb (guard (s .guards) (k .class)) bound)))
+    either (not (compatible key (k .letters))) (both (leb 1 (length (k .letters))) (both (leb 1 (k .class)) (leb (leastLetters (s .guards) (k .class)) bound)))
 
 -- and a row is an end of the key
 abbrev pub covers : Rule → Word → ℕ → Bool
-covers s key bound = both (ltb (longest (endsWith key) (s .table)) (length (s .table))) (all (coverRow s key bound) (s .table))
+covers s key bound = both (ltb (longest (endsWith key) (s .table)) (length (s .table))) (every (coverRow s key bound) (s .table))
 
 pub fits : (w key k : Word) → endsWith w key ≡ true → endsWith w k ≡ true → compatible key k ≡ true
 fits w key k p q = by (leb (length k) (length key))
     (λ t. ap (λ (b : Bool). either b (endsWith k key)) (ends-shorter w key k p q (leb-true (length k) (length key) t)))
     (λ t. either-right (endsWith key k) (endsWith k key) (ends-shorter w k key q p (omega (arith, leb-false (length k) (length key) t))))
 
-met-by : (least : List ℕ) (k n : ℕ) → 1 ≤ k → guard least k ≤ n → met least k n ≡ true
+met-by : (least : List ℕ) (k n : ℕ) → 1 ≤ k → leastLetters least k ≤ n → met least k n ≡ true
 unfolding met
 met-by least zero n h g = absurd (omega arith)
-met-by least (suc k) n h g = le-leb (guard least (suc k)) n g
+met-by least (suc k) n h g = le-leb (leastLetters least (suc k)) n g
 
 taken-none : (match : Word → Bool) (s : Rule) (n : ℕ) → taken match s n ≡ none → met (s .guards) (rowAt (s .table) (longest match (s .table)) .class) n ≡ false
 unfolding taken
@@ -70,11 +70,11 @@ module _ (s : Rule) (w key : Word) (bound n : ℕ) where
   pub cover : covers s key bound ≡ true → endsWith w key ≡ true → bound ≤ n → taken (endsWith w) s n ≡ none → ⊥
   cover c p h q = go (longest-found (endsWith key) (s .table)) (longest-found (endsWith w) (s .table))
     where
-      rows : all (coverRow s key bound) (s .table) ≡ true
-      rows = both-1 (ltb (longest (endsWith key) (s .table)) (length (s .table))) (all (coverRow s key bound) (s .table)) c
+      rows : every (coverRow s key bound) (s .table) ≡ true
+      rows = both-1 (ltb (longest (endsWith key) (s .table)) (length (s .table))) (every (coverRow s key bound) (s .table)) c
 
       row : (r : ℕ) → r < length (s .table) → endsWith w (rowAt (s .table) r .letters) ≡ true
-          → both (leb 1 (length (rowAt (s .table) r .letters))) (both (leb 1 (rowAt (s .table) r .class)) (leb (guard (s .guards) (rowAt (s .table) r .class)) bound)) ≡ true
+          → both (leb 1 (length (rowAt (s .table) r .letters))) (both (leb 1 (rowAt (s .table) r .class)) (leb (leastLetters (s .guards) (rowAt (s .table) r .class)) bound)) ≡ true
       row r l m = either-not (compatible key (rowAt (s .table) r .letters)) _ (fits w key (rowAt (s .table) r .letters) p m) (all-at (coverRow s key bound) (s .table) rows r l)
 
       go : Found (endsWith key) (s .table) (longest (endsWith key) (s .table)) → Found (endsWith w) (s .table) (longest (endsWith w) (s .table)) → ⊥
@@ -90,5 +90,5 @@ module _ (s : Rule) (w key : Word) (bound n : ℕ) where
           let r : ℕ = longest (endsWith w) (s .table) in
           let e = both-1 (leb 1 (length (rowAt (s .table) r .letters))) _ (row r (g .0) (g .1)) in
           let a = leb-true 1 (rowAt (s .table) r .class) (both-0 _ _ e) in
-          let b = leb-true (guard (s .guards) (rowAt (s .table) r .class)) bound (both-1 (leb 1 (rowAt (s .table) r .class)) _ e) in
+          let b = leb-true (leastLetters (s .guards) (rowAt (s .table) r .class)) bound (both-1 (leb 1 (rowAt (s .table) r .class)) _ e) in
           false≢true (sym (taken-none (endsWith w) s n q) ∙ met-by (s .guards) (rowAt (s .table) r .class) n a (omega arith))

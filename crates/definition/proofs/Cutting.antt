@@ -9,9 +9,9 @@ use lib.Dec.{leb}
 use lib.ListN.{length, take, length-append}
 use lib.Seq.{take-at}
 use borrow.Author.Tests.{leb-true}
-use Rattle.definition.specs.Words.{Word, both, all, endsWith}
+use Rattle.definition.specs.Words.{Word, both, every, endsWith}
 use Rattle.definition.specs.Tables.{Row, «A_10», «A_11», «A_12», «A_13», «A_14», «A_15», «A_16», «A_17», «A_18», «A_19», «A_20»}
-use Rattle.definition.specs.Search.{rowAt, guard, taken}
+use Rattle.definition.specs.Search.{rowAt, leastLetters, taken}
 use Rattle.definition.specs.Tries.{after, nothing}
 use Rattle.definition.specs.Kind.{Kind}
 use Rattle.definition.specs.Endings.{SuffixStep, verbStep1, verbStep2a, verbStep2b, verbStep2c, nounStep1a, nounStep1b, nounStep2a, nounStep2b, nounStep2c1, nounStep2c2, nounStep3, suffix, Cut, Cutting, ending, joined, cutOff, cutBy, cut, verb, noun, endings}
@@ -75,9 +75,9 @@ module _ (P : Cutting → Type 0) (cut-keeps : (s : SuffixStep) → Keeps P (cut
 
 -- ---- every row of an ending has a letter, and its guard is two letters more at least
 abbrev fits : List ℕ → Row → Bool
-fits least k = both (leb 1 (length (k .letters))) (leb (length (k .letters) + 2) (guard least (k .class)))
+fits least k = both (leb 1 (length (k .letters))) (leb (length (k .letters) + 2) (leastLetters least (k .class)))
 
-rows-fit : (s : SuffixStep) → all (fits (suffix s .guards)) (suffix s .table) ≡ true
+rows-fit : (s : SuffixStep) → every (fits (suffix s .guards)) (suffix s .table) ≡ true
 unfolding suffix «A_10» «A_11» «A_12» «A_13» «A_14» «A_15» «A_16» «A_17» «A_18» «A_19» «A_20»
 rows-fit verbStep1 = refl
 rows-fit verbStep2a = refl
@@ -101,9 +101,9 @@ module _ (s : SuffixStep) (r : ℕ) (h : r < length (suffix s .table)) where
   pub row-some : 1 ≤ length (rowAt (suffix s .table) r .letters)
   row-some = leb-true 1 (length (row .letters)) (both-0 (leb 1 (length (row .letters))) _ row-fits)
 
-  row-least : length (rowAt (suffix s .table) r .letters) + 2 ≤ guard (suffix s .guards) (rowAt (suffix s .table) r .class)
+  row-least : length (rowAt (suffix s .table) r .letters) + 2 ≤ leastLetters (suffix s .guards) (rowAt (suffix s .table) r .class)
   row-least =
-      leb-true (length (row .letters) + 2) (guard (suffix s .guards) (row .class)) (both-1 (leb 1 (length (row .letters))) _ row-fits)
+      leb-true (length (row .letters) + 2) (leastLetters (suffix s .guards) (row .class)) (both-1 (leb 1 (length (row .letters))) _ row-fits)
 
 pub without-is : (n t : Word) (cs : List Cut) → n ≡ t ++ joined cs → without n cs ≡ t
 unfolding without

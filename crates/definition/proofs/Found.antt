@@ -9,9 +9,9 @@ use native.Mathlib.Omega.{arith}
 use lib.Dec.{leb}
 use lib.ListN.{length}
 use borrow.Author.Tests.{leb-true, leb-false}
-use Rattle.definition.specs.Words.{Word, pick, all}
+use Rattle.definition.specs.Words.{Word, pick, every}
 use Rattle.definition.specs.Tables.{Row, Table}
-use Rattle.definition.specs.Search.{rowAt, longer, longest, Rule, guard, met, taken}
+use Rattle.definition.specs.Search.{rowAt, longer, longest, Rule, leastLetters, met, taken}
 use Rattle.definition.proofs.Match.{both-0, both-1}
 
 -- r is a row that matches, or stands behind all rows
@@ -69,10 +69,10 @@ pub no-letters : (t : Table) → length (rowAt t (length t) .letters) ≡ 0
 no-letters [] = refl
 no-letters (k ∷ t) = no-letters t
 
-met-guard : (least : List ℕ) (k n : ℕ) → met least k n ≡ true → guard least k ≤ n
+met-guard : (least : List ℕ) (k n : ℕ) → met least k n ≡ true → leastLetters least k ≤ n
 unfolding met
 met-guard least zero n e = absurd (false≢true e)
-met-guard least (suc k) n e = leb-true (guard least (suc k)) n e
+met-guard least (suc k) n e = leb-true (leastLetters least (suc k)) n e
 
 no-row : (least : List ℕ) (k n : ℕ) → k ≡ 0 → met least k n ≡ true → ⊥
 unfolding met
@@ -83,7 +83,7 @@ no-row least (suc k) n z e = omega arith
 pub record Taken (match : Word → Bool) (s : Rule) (n r : ℕ) : Type 0 where
   pub inside : r < length (s .table)
   pub matches : match (rowAt (s .table) r .letters) ≡ true
-  pub enough : guard (s .guards) (rowAt (s .table) r .class) ≤ n
+  pub enough : leastLetters (s .guards) (rowAt (s .table) r .class) ≤ n
   pub best : Longest match (s .table) r
 
 module _ (match : Word → Bool) (s : Rule) (n : ℕ) where
@@ -108,7 +108,7 @@ module _ (match : Word → Bool) (s : Rule) (n : ℕ) where
       go false m e = let z : _≡_ {A = ℕ} 0 1 = cc in absurd (omega arith)
 
 -- ---- a test of every row
-pub all-at : (p : Row → Bool) (t : Table) → all p t ≡ true → (r : ℕ) → r < length t → p (rowAt t r) ≡ true
+pub all-at : (p : Row → Bool) (t : Table) → every p t ≡ true → (r : ℕ) → r < length t → p (rowAt t r) ≡ true
 all-at p [] e r h = absurd (omega arith)
-all-at p (k ∷ t) e zero h = both-0 (p k) (all p t) e
-all-at p (k ∷ t) e (suc r) h = all-at p t (both-1 (p k) (all p t) e) r (omega arith)
+all-at p (k ∷ t) e zero h = both-0 (p k) (every p t) e
+all-at p (k ∷ t) e (suc r) h = all-at p t (both-1 (p k) (every p t) e) r (omega arith)

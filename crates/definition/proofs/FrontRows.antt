@@ -9,9 +9,9 @@ use lib.Dec.{leb, eqb}
 use lib.ListN.{length, drop, getD}
 use borrow.Author.Tests.{leb-true, eqb-true}
 use Rattle.definition.specs.Letters.{alef, teh, noon, yeh}
-use Rattle.definition.specs.Words.{Word, both, all, same}
+use Rattle.definition.specs.Words.{Word, both, every, same}
 use Rattle.definition.specs.Tables.{Row, «A_4», «A_5», «A_6», «A_7», «A_8», «A_9»}
-use Rattle.definition.specs.Search.{rowAt, guard}
+use Rattle.definition.specs.Search.{rowAt, leastLetters}
 use Rattle.definition.specs.Fronts.{PrefixStep, prefixStep1, prefixStep2, prefixStep3aNoun, prefixStep3bNoun, prefixStep3Verb, prefixStep4Verb, prefix, replacements, at, frontRow, replacement}
 use Rattle.definition.proofs.Match.{both-0, both-1, either, by, same-eq}
 use Rattle.definition.proofs.Found.{all-at}
@@ -25,10 +25,10 @@ passFits most s k =
     both (same (drop (length (k .letters) - length (replacedBy s k)) (k .letters)) (replacedBy s k))
     (both (leb (length (replacedBy s k)) (length (k .letters)))
     (both (leb (length (k .letters)) (length (replacedBy s k) + most))
-    (leb (length (k .letters) + 3) (guard (prefix s .guards) (k .class) + length (replacedBy s k)))))
+    (leb (length (k .letters) + 3) (leastLetters (prefix s .guards) (k .class) + length (replacedBy s k)))))
 
 abbrev pub PassRows : ℕ → PrefixStep → Type 0
-PassRows most s = all (passFits most s) (prefix s .table) ≡ true
+PassRows most s = every (passFits most s) (prefix s .table) ≡ true
 
 pub pass-2 : PassRows 1 prefixStep2
 unfolding prefix replacements «A_5» same
@@ -53,7 +53,7 @@ pub record Passes (most g : ℕ) (key new : Word) : Type 0 where
   pub stay : length key + 3 ≤ g + length new
 
 pub passes : (most : ℕ) (s : PrefixStep) → PassRows most s → (r : ℕ) → r < length (prefix s .table)
-    → Passes most (guard (prefix s .guards) (rowAt (prefix s .table) r .class)) (frontRow (at s r)) (replacement (at s r))
+    → Passes most (leastLetters (prefix s .guards) (rowAt (prefix s .table) r .class)) (frontRow (at s r)) (replacement (at s r))
 unfolding frontRow replacement
 passes most s p r h =
     let k : Row = rowAt (prefix s .table) r in
@@ -65,12 +65,12 @@ passes most s p r h =
       tail = same-eq (drop (length (k .letters) - length new) (k .letters)) new (both-0 _ _ e);
       shorter = leb-true (length new) (length (k .letters)) (both-0 _ _ e1);
       few = leb-true (length (k .letters)) (length new + most) (both-0 _ _ e2);
-      stay = leb-true (length (k .letters) + 3) (guard (prefix s .guards) (k .class) + length new) (both-1 (leb (length (k .letters)) (length new + most)) _ e2);
+      stay = leb-true (length (k .letters) + 3) (leastLetters (prefix s .guards) (k .class) + length new) (both-1 (leb (length (k .letters)) (length new + most)) _ e2);
     }
 
 -- ---- a test of a step's rows: how many letters a replacement has
 abbrev NewRows : ℕ → PrefixStep → Type 0
-NewRows n s = all (λ (k : Row). eqb (length (replacedBy s k)) n) (prefix s .table) ≡ true
+NewRows n s = every (λ (k : Row). eqb (length (replacedBy s k)) n) (prefix s .table) ≡ true
 
 pub new-2 : NewRows 0 prefixStep2
 unfolding prefix replacements «A_5»
@@ -89,16 +89,16 @@ new-length n s p r h =
 abbrev headFits : Row → Bool
 headFits k =
     both (eqb (length (k .letters)) 2)
-    (both (eqb (guard (prefix prefixStep1 .guards) (k .class)) 4)
+    (both (eqb (leastLetters (prefix prefixStep1 .guards) (k .class)) 4)
     (either (same (replacedBy prefixStep1 k) (getD (k .letters) 0 0 ∷ [])) (same (replacedBy prefixStep1 k) (getD (k .letters) 1 0 ∷ []))))
 
-head-rows : all headFits (prefix prefixStep1 .table) ≡ true
+head-rows : every headFits (prefix prefixStep1 .table) ≡ true
 unfolding prefix replacements «A_4» same
 head-rows = refl
 
 pub record Heads (r : ℕ) (key new : Word) : Type 0 where
   pub two : length key ≡ 2
-  pub four : guard (prefix prefixStep1 .guards) (rowAt (prefix prefixStep1 .table) r .class) ≡ 4
+  pub four : leastLetters (prefix prefixStep1 .guards) (rowAt (prefix prefixStep1 .table) r .class) ≡ 4
   pub kept : (i : ℕ) × (i < 2) × (new ≡ getD key i 0 ∷ [])
 
 pub heads : (r : ℕ) → r < length (prefix prefixStep1 .table) → Heads r (frontRow (at prefixStep1 r)) (replacement (at prefixStep1 r))
@@ -108,10 +108,10 @@ heads r h =
     let new : Word = replacedBy prefixStep1 k in
     let e : headFits k ≡ true = all-at headFits (prefix prefixStep1 .table) head-rows r h in
     let e1 = both-1 (eqb (length (k .letters)) 2) _ e in
-    let e2 = both-1 (eqb (guard (prefix prefixStep1 .guards) (k .class)) 4) _ e1 in
+    let e2 = both-1 (eqb (leastLetters (prefix prefixStep1 .guards) (k .class)) 4) _ e1 in
     record {
       two = eqb-true (length (k .letters)) 2 (both-0 _ _ e);
-      four = eqb-true (guard (prefix prefixStep1 .guards) (k .class)) 4 (both-0 _ _ e1);
+      four = eqb-true (leastLetters (prefix prefixStep1 .guards) (k .class)) 4 (both-0 _ _ e1);
       kept = by (same new (getD (k .letters) 0 0 ∷ []))
           (λ t. (0, omega arith, same-eq new (getD (k .letters) 0 0 ∷ []) t))
           (λ t. (1, omega arith, same-eq new (getD (k .letters) 1 0 ∷ []) (rw t at e2)));
@@ -127,7 +127,7 @@ fourFits k =
     (both (same (replacedBy prefixStep4Verb k) (alef ∷ drop 1 (k .letters)))
     (both (eqb (length (drop 1 (k .letters))) 2) (oneOf (getD (k .letters) 0 0))))
 
-four-rows : all fourFits (prefix prefixStep4Verb .table) ≡ true
+four-rows : every fourFits (prefix prefixStep4Verb .table) ≡ true
 unfolding prefix replacements «A_9» same
 four-rows = refl
 

@@ -10,7 +10,7 @@ use lib.Seq.{length-take-le, set-append-seam, getD-append-seam}
 use Rattle.definition.specs.Letters.{alef}
 use Rattle.definition.specs.Words.{Word, pick, beginsWith}
 use Rattle.definition.specs.Tables.{«A_4»}
-use Rattle.definition.specs.Search.{rowAt, guard, taken}
+use Rattle.definition.specs.Search.{rowAt, leastLetters, taken}
 use Rattle.definition.specs.Tries.{_thenTry_, firstOf, attempt}
 use Rattle.definition.specs.Kind.{Kind, ifOpen}
 use Rattle.definition.specs.Fronts.{PrefixStep, prefixStep1, prefixStep2, prefixStep3aNoun, prefixStep3bNoun, prefixStep3Verb, prefixStep4Verb, prefix, notAt, Applied, at, frontRow, replacement, unreplaced, Fronting, text, passing, change, beginsWithAny, applyBy, applyUnless, apply, prefixSteps, started, fronts}
@@ -21,26 +21,26 @@ use Rattle.definition.proofs.Triples.{Ends, Does, ends-after, does-then
 use Rattle.definition.proofs.FrontRows.{PassRows, pass-2, pass-3a, pass-3b, pass-3v, passes, new-2, new-3v, new-length, heads, Verbal, fours}
 
 -- ---- the head letter stays the same letter where the front grows
-pub head-in : (n front x head : Word) {ms : List Applied} → n ≡ front ++ x → HeadOf front front head ms → HeadOf n front head ms
-head-in n front x head e (noHead q) = noHead q
-head-in n front x head e (oneHead r i rest h l two f q) =
+pub head-in : (n front x headLetter : Word) {ms : List Applied} → n ≡ front ++ x → HeadOf front front headLetter ms → HeadOf n front headLetter ms
+head-in n front x headLetter e (noHead q) = noHead q
+head-in n front x headLetter e (oneHead r i rest h l two f q) =
     let lf : length front ≡ length (rowAt «A_4» r .letters) + length rest = ap length f ∙ length-append (rowAt «A_4» r .letters) rest in
     let inside : i < length front = omega arith in
     oneHead r i rest h l two f (q ∙ ap (λ (c : ℕ). c ∷ []) (sym (ap (λ (y : Word). getD y i 0) e ∙ List·getD-append front x 0 i inside)))
 
-head-more : (n front more head : Word) {ms : List Applied} → HeadOf n front head ms → HeadOf n (front ++ more) head ms
-head-more n front more head (noHead q) = noHead q
-head-more n front more head (oneHead r i rest h l two f q) =
+head-more : (n front more headLetter : Word) {ms : List Applied} → HeadOf n front headLetter ms → HeadOf n (front ++ more) headLetter ms
+head-more n front more headLetter (noHead q) = noHead q
+head-more n front more headLetter (oneHead r i rest h l two f q) =
     oneHead r i (rest ++ more) h l two (ap (λ (y : Word). y ++ more) f ∙ append-assoc (rowAt «A_4» r .letters) rest more) q
 
-head-on : (front more head : Word) {ms : List Applied} → HeadOf front front head ms → HeadOf (front ++ more) (front ++ more) head ms
-head-on front more head h = head-more (front ++ more) front more head (head-in (front ++ more) front more head refl h)
+head-on : (front more headLetter : Word) {ms : List Applied} → HeadOf front front headLetter ms → HeadOf (front ++ more) (front ++ more) headLetter ms
+head-on front more headLetter h = head-more (front ++ more) front more headLetter (head-in (front ++ more) front more headLetter refl h)
 
 -- ---- what holds on the way. At most g letters are gone.
 record Way (s : Word) (g : ℕ) (f : Fronting) : Type 0 where
   whole : s ≡ f .front ++ (f .passed ++ f .rest)
-  enough : 3 * min 1 (length (f .front)) ≤ length (f .head) + (length (f .passed) + length (f .rest))
-  gone : length (f .front) ≤ length (f .head) + g
+  enough : 3 * min 1 (length (f .front)) ≤ length (f .headLetter) + (length (f .passed) + length (f .rest))
+  gone : length (f .front) ≤ length (f .headLetter) + g
   fronts : f .front ≡ frontOf (f .applied)
   no4 : isApplied prefixStep4Verb (f .applied) ≡ false
 
@@ -51,7 +51,7 @@ record Early (s : Word) (g : ℕ) (f : Fronting) : Type 0 where
   no3 : isApplied prefixStep3Verb (f .applied) ≡ false
   first : List Applied
   second : List Applied
-  step1 : HeadOf (f .front) (f .front) (f .head) first
+  step1 : HeadOf (f .front) (f .front) (f .headLetter) first
   step2 : AtMostOne prefixStep2 second
   all : f .applied ≡ second ++ first
 
@@ -62,7 +62,7 @@ record Late (s : Word) (g : ℕ) (f : Fronting) : Type 0 where
   first : List Applied
   second : List Applied
   third : List Applied
-  step1 : HeadOf (f .front) (f .front) (f .head) first
+  step1 : HeadOf (f .front) (f .front) (f .headLetter) first
   step2 : AtMostOne prefixStep2 second
   step3 : AtMostOne prefixStep3Verb third
   all : f .applied ≡ third ++ (second ++ first)
@@ -80,15 +80,15 @@ fourth ms run = pick (isApplied prefixStep4Verb ms) (set run (place ms) alef) ru
 pub record Fronted (s : Word) (f : Fronting) : Type 0 where
   pub run : Word
   pub whole : s ≡ f .front ++ run
-  pub stays : text f ≡ f .head ++ fourth (f .applied) run
-  pub enough : 3 * min 1 (length (f .front)) ≤ length (f .head) + length run
-  pub gone : length (f .front) ≤ length (f .head) + 5
+  pub stays : text f ≡ f .headLetter ++ fourth (f .applied) run
+  pub enough : 3 * min 1 (length (f .front)) ≤ length (f .headLetter) + length run
+  pub gone : length (f .front) ≤ length (f .headLetter) + 5
   pub fronts : f .front ≡ frontOf (f .applied)
-  pub order : InOrder (f .front) (f .front) (f .head) (f .applied)
+  pub order : InOrder (f .front) (f .front) (f .headLetter) (f .applied)
   pub four : isApplied prefixStep4Verb (f .applied) ≡ true → Fourth (f .applied) run
 
-text-length : (f : Fronting) → length (text f) ≡ length (f .head) + (length (f .passed) + length (f .rest))
-text-length f = length-append (f .head) (f .passed ++ f .rest) ∙ ap (λ (n : ℕ). length (f .head) + n) (length-append (f .passed) (f .rest))
+text-length : (f : Fronting) → length (text f) ≡ length (f .headLetter) + (length (f .passed) + length (f .rest))
+text-length f = length-append (f .headLetter) (f .passed ++ f .rest) ∙ ap (λ (n : ℕ). length (f .headLetter) + n) (length-append (f .passed) (f .rest))
 
 -- ---- any step
 module _ (Q R : Fronting → Type 0) (st : PrefixStep) (f : Fronting) where
@@ -131,7 +131,7 @@ module _ (s : Word) (g most : ℕ) (st : PrefixStep) (p : PassRows most st) (f :
       let lp : length (f .passed ++ replacement m) ≡ length (f .passed) + length (replacement m) = length-append (f .passed) (replacement m) in
       let lf : length (f .front ++ take j (frontRow m)) ≡ length (f .front) + length (take j (frontRow m)) = length-append (f .front) (take j (frontRow m)) in
       let lx = text-length f in
-      let en : guard (prefix st .guards) (rowAt (prefix st .table) r .class) ≤ length (text f) = tk .enough in
+      let en : leastLetters (prefix st .guards) (rowAt (prefix st .table) r .class) ≤ length (text f) = tk .enough in
       let gone = b .way .gone in
       record {
         whole = b .way .whole
@@ -163,7 +163,7 @@ module _ (s : Word) (g most : ℕ) (st : PrefixStep) (p : PassRows most st) (f :
           first = b .first;
           second = b .second;
           third = m ∷ [];
-          step1 = head-on (f .front) (take j (frontRow m)) (f .head) (b .step1);
+          step1 = head-on (f .front) (take j (frontRow m)) (f .headLetter) (b .step1);
           step2 = b .step2;
           step3 = t;
           all = ap (λ (x : List Applied). m ∷ x) (b .all);
@@ -276,7 +276,7 @@ module _ (s : Word) where
         no3 = b .0 .no3;
         first = b .0 .first;
         second = m ∷ [];
-        step1 = head-on (f .front) (unreplaced m) (f .head) (b .0 .step1);
+        step1 = head-on (f .front) (unreplaced m) (f .headLetter) (b .0 .step1);
         step2 = once r (tk .inside);
         all = ap (λ (x : List Applied). m ∷ x) (b .0 .all ∙ ap (λ (x : List Applied). x ++ b .0 .first) (b .1));
       })
@@ -302,7 +302,7 @@ module _ (s : Word) where
         first = b .first;
         second = b .second;
         third = m ∷ [];
-        step1 = head-on (f .front) (unreplaced m) (f .head) (b .step1);
+        step1 = head-on (f .front) (unreplaced m) (f .headLetter) (b .step1);
         step2 = b .step2;
         step3 = once r (tk .inside);
         all = ap (λ (x : List Applied). m ∷ x) (b .all);
@@ -336,7 +336,7 @@ module _ (s : Word) where
       record {
         run = f .passed ++ f .rest;
         whole = v .way .whole ∙ (λ i. sym fr i ++ (f .passed ++ f .rest));
-        stays = ap (λ (x : Word). f .head ++ x) (
+        stays = ap (λ (x : Word). f .headLetter ++ x) (
             (λ i. (f .passed ++ fs .new-is i) ++ d)
             ∙ append-assoc (f .passed) (alef ∷ u) d
             ∙ sym (set-append-seam (f .passed) (fs .first) (u ++ d) alef)
@@ -348,7 +348,7 @@ module _ (s : Word) where
           first = v .first;
           second = v .second;
           third = m ∷ v .third;
-          step1 = head-on (f .front) (unreplaced m) (f .head) (v .step1);
+          step1 = head-on (f .front) (unreplaced m) (f .headLetter) (v .step1);
           step2 = v .step2;
           step3 = third-verb (v .step3) (once r (tk .inside));
           all = ap (λ (x : List Applied). m ∷ x) (v .all);

@@ -42,10 +42,10 @@ fourth-length ms w = go (isApplied prefixStep4Verb ms)
     go true = length-set w (place ms) alef
     go false = refl
 
-pub head-short : (n front head : Word) {ms : List Applied} → HeadOf n front head ms → (length head ≤ 1) × (length head ≤ length front)
-head-short n front head (noHead e) = let z : length head ≡ 0 = ap length e in (omega arith, omega arith)
-head-short n front head (oneHead r i rest h l two f e) =
-    let z : length head ≡ 1 = ap length e in
+pub head-short : (n front headLetter : Word) {ms : List Applied} → HeadOf n front headLetter ms → (length headLetter ≤ 1) × (length headLetter ≤ length front)
+head-short n front headLetter (noHead e) = let z : length headLetter ≡ 0 = ap length e in (omega arith, omega arith)
+head-short n front headLetter (oneHead r i rest h l two f e) =
+    let z : length headLetter ≡ 1 = ap length e in
     let lf : length front ≡ length (rowAt «A_4» r .letters) + length rest = ap length f ∙ length-append (rowAt «A_4» r .letters) rest in
     (omega arith, omega arith)
 

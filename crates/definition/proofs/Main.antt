@@ -5,7 +5,7 @@ use mathlib.Core.List.{[], _∷_, map}
 use Prim.Native.Nat.{ℕ, _≤_, _<_}
 use lib.ListN.{length}
 use Rattle.definition.specs.Letters.{hamza, alef, waw, yeh}
-use Rattle.definition.specs.Words.{Word, all, beginsWith, endsWith}
+use Rattle.definition.specs.Words.{Word, every, beginsWith, endsWith}
 use Rattle.definition.specs.Tables.{Table, «A_1», «A_2», «A_21»}
 use Rattle.definition.specs.Search.{rowAt, longest}
 use Rattle.definition.specs.Tries.{done, again}
@@ -55,7 +55,7 @@ pub main-end : (w : Word) (t : Table) → distinct t ≡ true → (r : ℕ) → 
 main-end w t d = longest-is (endsWith w) t d (rigid-end w)
 
 -- all 22 tables are such tables
-pub main-distinct : all distinct allTables ≡ true
+pub main-distinct : every distinct allTables ≡ true
 main-distinct = distinct-all
 
 -- a step that is repeated as often as the word has letters ends where it takes no row

@@ -18,7 +18,7 @@ use Rattle.definition.specs.Normal.{gives, listedFor, given, normal, nor
 use Rattle.definition.specs.Endings.{Cutting, endings}
 use Rattle.definition.specs.Fronts.{prefixStep4Verb}
 use Rattle.definition.specs.Finish.{last, other, finish}
-use Rattle.definition.specs.Stem.{stem, applied, head, run}
+use Rattle.definition.specs.Stem.{stem, applied, headLetter, run}
 use Rattle.definition.specs.Demand3.{Change, isApplied, place, Demand3}
 use Rattle.definition.specs.Examples.{Worked, work, examples}
 use Rattle.definition.proofs.Examples.{examples-right}
@@ -33,13 +33,13 @@ pub demand3-only : (w s : Word) → Demand3 w s → s ≡ stem w
 demand3-only w s d =
     let one = demand3 w in
     let long : length s ≡ length (stem w) = d .size ∙ sym (one .size) in
-    let c : ℕ → ℕ = λ i. getD (head w ++ run w) i 0 in
+    let c : ℕ → ℕ = λ i. getD (headLetter w ++ run w) i 0 in
     let T : Type 0 = Failed (endings (kind w) (normalise w)) in
-    let F : ℕ → Type 0 = λ i. (isApplied prefixStep4Verb (applied w) ≡ true) × (i ≡ length (head w) + place (applied w)) in
+    let F : ℕ → Type 0 = λ i. (isApplied prefixStep4Verb (applied w) ≡ true) × (i ≡ length (headLetter w) + place (applied w)) in
     ext-getD 0 s (stem w) long (λ i h.
     change-one (suc i ≡ length s) T (F i)
     (ℕ-discrete (suc i) (length s)) (failed-or-not (endings (kind w) (normalise w)))
-    (Dec·and (Bool-discrete (isApplied prefixStep4Verb (applied w)) true) (ℕ-discrete i (length (head w) + place (applied w))))
+    (Dec·and (Bool-discrete (isApplied prefixStep4Verb (applied w)) true) (ℕ-discrete i (length (headLetter w) + place (applied w))))
     (c i) (getD s i 0) (getD (stem w) i 0) (d .changes i h)
     (subst (λ (m : ℕ). Change (suc i ≡ m) T (F i) (c i) (getD (stem w) i 0)) (sym long) (one .changes i (omega arith))))
 

@@ -9,7 +9,7 @@ use lib.Dec.{leb}
 use lib.ListN.{length, take, getD, length-append}
 use borrow.Author.Tests.{leb-true, not-true}
 use Rattle.definition.specs.Letters.{hamza, alef, waw, yeh}
-use Rattle.definition.specs.Words.{Word, both, all, same, beginsWith}
+use Rattle.definition.specs.Words.{Word, both, every, same, beginsWith}
 use Rattle.definition.specs.Tables.{Row, «A_0», «A_4»}
 use Rattle.definition.specs.Search.{rowAt, longest}
 use Rattle.definition.specs.Normal.{gives, listedFor, given, normal, normalise}
@@ -42,9 +42,9 @@ module _ (P : ℕ → Type 0) where
   all-from [] h = tt
   all-from (c ∷ w) h = (h 0 (omega arith), all-from w (λ i l. h (suc i) (omega arith)))
 
-  pub all-head : (n front x head : Word) {ms : List Applied} → n ≡ front ++ x → HeadOf n front head ms → AllOf P n → AllOf P head
-  all-head n front x head e (noHead q) a = subst (AllOf P) (sym q) tt
-  all-head n front x head e (oneHead r i rest h l two f q) a =
+  pub all-head : (n front x headLetter : Word) {ms : List Applied} → n ≡ front ++ x → HeadOf n front headLetter ms → AllOf P n → AllOf P headLetter
+  all-head n front x headLetter e (noHead q) a = subst (AllOf P) (sym q) tt
+  all-head n front x headLetter e (oneHead r i rest h l two f q) a =
       let ln : length n ≡ length front + length x = ap length e ∙ length-append front x in
       let lf : length front ≡ length (rowAt «A_4» r .letters) + length rest = ap length f ∙ length-append (rowAt «A_4» r .letters) rest in
       subst (AllOf P) (sym q) (all-getD n i (omega arith) a, tt)
@@ -57,7 +57,7 @@ abbrev otherRow : ℕ → Row → Bool
 otherRow c k = not (same (k .letters) (c ∷ []))
 
 abbrev noKey : ℕ → Bool
-noKey c = all (otherRow c) «A_0»
+noKey c = every (otherRow c) «A_0»
 
 no-key : (c : ℕ) → noKey c ≡ true → NoKey c
 no-key c e r h q =
@@ -81,7 +81,7 @@ put-in = no-keys (hamza ∷ alef ∷ waw ∷ yeh ∷ []) refl
 abbrev givesNoKey : Row → Bool
 givesNoKey k = both (leb 1 (k .class)) (noKeys (given 0 (k .class)))
 
-gives-no-key : all givesNoKey «A_0» ≡ true
+gives-no-key : every givesNoKey «A_0» ≡ true
 unfolding «A_0» gives listedFor given same
 gives-no-key = refl
 

@@ -5,9 +5,9 @@ use mathlib.Core.List.{List, [], _∷_}
 use mathlib.Core.Option.{Option, none, some}
 use Prim.Native.Nat.{ℕ}
 use lib.ListN.{length}
-use Rattle.definition.specs.Words.{Word, pick, all, same, endsWith}
+use Rattle.definition.specs.Words.{Word, pick, every, same, endsWith}
 use Rattle.definition.specs.Tables.{Row, «A_10», «A_17», «A_18»}
-use Rattle.definition.specs.Search.{rowAt, longer, longest, guard, taken}
+use Rattle.definition.specs.Search.{rowAt, longer, longest, leastLetters, taken}
 use Rattle.definition.specs.Tries.{Step, nothing, _thenTry_, firstOf, again}
 use Rattle.definition.specs.Kind.{Kind, OPEN, DEFINED, ifOpen}
 use Rattle.definition.specs.Endings.{SuffixStep, verbStep1, verbStep2a, verbStep2b, verbStep2c, nounStep1a, nounStep1b, nounStep2a, nounStep2b, nounStep2c1, nounStep2c2, nounStep3, suffix, Cut, Cutting, cutOff, cutBy, cut, verb, noun, endings}
@@ -24,14 +24,14 @@ Idle s v = taken (endsWith (v .text)) (suffix s) (length (v .text)) ≡ none
 -- ---- each row of Step1a is taken by the verb's Step1 or by its Step2a
 abbrev pub coveredRow : SuffixStep → Row → Bool
 coveredRow s k =
-    pick (covers (suffix verbStep1) (k .letters) (guard (suffix s .guards) (k .class))) true
-    (covers (suffix verbStep2a) (k .letters) (guard (suffix s .guards) (k .class)))
+    pick (covers (suffix verbStep1) (k .letters) (leastLetters (suffix s .guards) (k .class))) true
+    (covers (suffix verbStep2a) (k .letters) (leastLetters (suffix s .guards) (k .class)))
 
-pub covered-1a : all (coveredRow nounStep1a) (suffix nounStep1a .table) ≡ true
+pub covered-1a : every (coveredRow nounStep1a) (suffix nounStep1a .table) ≡ true
 unfolding suffix «A_10» «A_17» «A_18» endsWith same longest longer
 covered-1a = refl
 
-pub idle-by : (s : SuffixStep) (v : Cutting) → all (coveredRow s) (suffix s .table) ≡ true → Idle verbStep1 v → Idle verbStep2a v → Idle s v
+pub idle-by : (s : SuffixStep) (v : Cutting) → every (coveredRow s) (suffix s .table) ≡ true → Idle verbStep1 v → Idle verbStep2a v → Idle s v
 idle-by s v c one two = go (taken (endsWith (v .text)) (suffix s) (length (v .text))) refl
   where
     go : (o : Option ℕ) → taken (endsWith (v .text)) (suffix s) (length (v .text)) ≡ o → o ≡ none
@@ -39,7 +39,7 @@ idle-by s v c one two = go (taken (endsWith (v .text)) (suffix s) (length (v .te
     go (some r) p =
         let tk = taken-some (endsWith (v .text)) (suffix s) (length (v .text)) r p in
         let k : Row = rowAt (suffix s .table) r in
-        let g : ℕ = guard (suffix s .guards) (k .class) in
+        let g : ℕ = leastLetters (suffix s .guards) (k .class) in
         let cr : coveredRow s k ≡ true = all-at (coveredRow s) (suffix s .table) c r (tk .inside) in
         absurd (by (covers (suffix verbStep1) (k .letters) g)
         (λ t. cover (suffix verbStep1) (v .text) (k .letters) g (length (v .text)) t (tk .matches) (tk .enough) one)

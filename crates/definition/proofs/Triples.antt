@@ -1,7 +1,7 @@
 -- A step from states with P ends in states with Q where it succeeds, with R where it fails. Assumes nothing.
 use Prim.Native.Nat.{ℕ, zero, suc}
 use mathlib.Core.List.{List, [], _∷_}
-use Rattle.definition.specs.Tries.{Try, done, failed, Step, after, andThen, orElse, whileDone, _thenTry_, firstOf, again, attempt}
+use Rattle.definition.specs.Tries.{Try, done, failed, Step, after, andThen, ifFailed, whileDone, _thenTry_, firstOf, again, attempt}
 use Rattle.definition.specs.Kind.{Kind, OPEN, DEFINED, ifOpen}
 
 module _ {A : Type 0} where
@@ -34,7 +34,7 @@ module _ {A : Type 0} where
     unfolding firstOf
     does-or S f fs df ds a p = go (f a) (df a p)
       where
-        go : (t : Try A) → Ends Q S t → Ends Q R (orElse t (firstOf fs))
+        go : (t : Try A) → Ends Q S t → Ends Q R (ifFailed t (firstOf fs))
         go (done b) q = q
         go (failed b) s = ds b s
 

@@ -36,9 +36,9 @@ module _ (k : Kind) (n : Word) where
   run-left : runOf ≡ drop (length (f .front)) left
   run-left = ap (drop (length (f .front))) (without-is n left (cutting k n .cuts) (kept .whole))
 
-  lengths : (length left ≡ length (f .front) + length (fronted .run)) × (length (f .head) ≤ 1) × (length (f .head) ≤ length (f .front))
+  lengths : (length left ≡ length (f .front) + length (fronted .run)) × (length (f .headLetter) ≤ 1) × (length (f .headLetter) ≤ length (f .front))
   lengths =
-      let hs = head-short (f .front) (f .front) (f .head) (fronted .order .step1) in
+      let hs = head-short (f .front) (f .front) (f .headLetter) (fronted .order .step1) in
       (sym (maqsura-if-length (endings k n) left) ∙ ap length (fronted .whole) ∙ length-append (f .front) (fronted .run), hs .0, hs .1)
 
   both-parts : (left ≡ f .front ++ drop (length (f .front)) left) × (fronted .run ≡ maqsuraIfFailed (endings k n) (drop (length (f .front)) left))
@@ -55,21 +55,21 @@ module _ (k : Kind) (n : Word) where
       ∙ ap (λ (x : Word). x ++ joined (cutting k n .cuts)) (both-parts .0 ∙ ap (λ (x : Word). f .front ++ x) (sym run-left))
       ∙ append-assoc (f .front) runOf (joined (cutting k n .cuts))
 
-  pub letters-of : stemOf k n ≡ finish (fronting k n .head ++ fourth (fronting k n .applied) (maqsuraIfFailed (endings k n) runOf))
+  pub letters-of : stemOf k n ≡ finish (fronting k n .headLetter ++ fourth (fronting k n .applied) (maqsuraIfFailed (endings k n) runOf))
   unfolding stemOf
-  letters-of = ap finish (fronted .stays ∙ ap (λ (x : Word). f .head ++ fourth (f .applied) x) run-is)
+  letters-of = ap finish (fronted .stays ∙ ap (λ (x : Word). f .headLetter ++ fourth (f .applied) x) run-is)
 
-  pub size-of : length (stemOf k n) ≡ length (fronting k n .head ++ runOf)
+  pub size-of : length (stemOf k n) ≡ length (fronting k n .headLetter ++ runOf)
   size-of =
-      ap length letters-of ∙ finish-length (f .head ++ fourth (f .applied) (maqsuraIfFailed (endings k n) runOf))
-      ∙ length-append (f .head) (fourth (f .applied) (maqsuraIfFailed (endings k n) runOf))
-      ∙ ap (λ (m : ℕ). length (f .head) + m) (fourth-length (f .applied) (maqsuraIfFailed (endings k n) runOf) ∙ maqsura-if-length (endings k n) runOf)
-      ∙ sym (length-append (f .head) runOf)
+      ap length letters-of ∙ finish-length (f .headLetter ++ fourth (f .applied) (maqsuraIfFailed (endings k n) runOf))
+      ∙ length-append (f .headLetter) (fourth (f .applied) (maqsuraIfFailed (endings k n) runOf))
+      ∙ ap (λ (m : ℕ). length (f .headLetter) + m) (fourth-length (f .applied) (maqsuraIfFailed (endings k n) runOf) ∙ maqsura-if-length (endings k n) runOf)
+      ∙ sym (length-append (f .headLetter) runOf)
 
-  sizes : (length (stemOf k n) ≡ length (f .head) + length (fronted .run)) × (length n ≡ length left + length (joined (cutting k n .cuts)))
+  sizes : (length (stemOf k n) ≡ length (f .headLetter) + length (fronted .run)) × (length n ≡ length left + length (joined (cutting k n .cuts)))
   sizes =
       let a = size-of in
-      let b : length (f .head ++ runOf) ≡ length (f .head) + length runOf = length-append (f .head) runOf in
+      let b : length (f .headLetter ++ runOf) ≡ length (f .headLetter) + length runOf = length-append (f .headLetter) runOf in
       let c : length (fronted .run) ≡ length runOf = ap length run-is ∙ maqsura-if-length (endings k n) runOf in
       (omega arith, ap length (kept .whole) ∙ length-append left (joined (cutting k n .cuts)))
 

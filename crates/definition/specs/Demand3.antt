@@ -10,13 +10,13 @@ use lib.ListN.{length, getD}
 use Rattle.definition.specs.Letters.{hamza, alefMadda, alefHamzaAbove, wawHamza, alefHamzaBelow, yehHamza, alef, teh, noon, waw, alefMaksura, yeh}
 use Rattle.definition.specs.Words.{Word, pick, endsWith}
 use Rattle.definition.specs.Tables.{«A_0», «A_4»}
-use Rattle.definition.specs.Search.{rowAt, guard, taken}
+use Rattle.definition.specs.Search.{rowAt, leastLetters, taken}
 use Rattle.definition.specs.Tries.{Failed}
 use Rattle.definition.specs.Kind.{kind}
 use Rattle.definition.specs.Normal.{normalise}
 use Rattle.definition.specs.Endings.{Cut, suffix, joined, endings}
 use Rattle.definition.specs.Fronts.{PrefixStep, prefixStep1, prefixStep2, prefixStep3aNoun, prefixStep3bNoun, prefixStep3Verb, prefixStep4Verb, prefix, Applied, at, frontRow, unreplaced}
-use Rattle.definition.specs.Stem.{chain, back, applied, front, head, without, run}
+use Rattle.definition.specs.Stem.{chain, back, applied, front, headLetter, without, run}
 
 -- ---- the back
 
@@ -25,7 +25,7 @@ pub record CutFrom (n : Word) (cs : List Cut) (c : Cut) : Type 0 where
   -- it is a row of its step's table
   pub listed : c .row < length (suffix (c .step) .table)
   -- there are as many letters as item 3 asks for its step and class
-  pub long : guard (suffix (c .step) .guards) (rowAt (suffix (c .step) .table) (c .row) .class) ≤ length (without n cs)
+  pub long : leastLetters (suffix (c .step) .guards) (rowAt (suffix (c .step) .table) (c .row) .class) ≤ length (without n cs)
   -- it is the row that its step takes there
   pub taken : taken (endsWith (without n cs)) (suffix (c .step)) (length (without n cs)) ≡ some (c .row)
 
@@ -57,10 +57,10 @@ pub data AtMostOne (s : PrefixStep) : List Applied → Type 0 where
 
 -- Step1's changes: none, and there is no head letter; or one by a row of A_4, with which the front begins,
 -- and the head letter is one of the first two letters of the normalised word n
-pub data HeadOf (n front head : Word) : List Applied → Type 0 where
-  noHead : head ≡ [] → HeadOf n front head []
+pub data HeadOf (n front headLetter : Word) : List Applied → Type 0 where
+  noHead : headLetter ≡ [] → HeadOf n front headLetter []
   oneHead : (r i : ℕ) (rest : Word) → r < length «A_4» → i < 2 → length (rowAt «A_4» r .letters) ≡ 2
-      → front ≡ rowAt «A_4» r .letters ++ rest → head ≡ getD n i 0 ∷ [] → HeadOf n front head (at prefixStep1 r ∷ [])
+      → front ≡ rowAt «A_4» r .letters ++ rest → headLetter ≡ getD n i 0 ∷ [] → HeadOf n front headLetter (at prefixStep1 r ∷ [])
 
 -- Step3's changes: by Step3a_Noun, or by Step3b_Noun, or by Step3_Verb and then Step4_Verb
 pub data Third : List Applied → Type 0 where
@@ -69,11 +69,11 @@ pub data Third : List Applied → Type 0 where
   third-verb : {ms ms′ : List Applied} → AtMostOne prefixStep3Verb ms → AtMostOne prefixStep4Verb ms′ → Third (ms′ ++ ms)
 
 -- the changes in item 4's order, the last one foremost
-pub record InOrder (n front head : Word) (ms : List Applied) : Type 0 where
+pub record InOrder (n front headLetter : Word) (ms : List Applied) : Type 0 where
   pub first : List Applied
   pub second : List Applied
   pub third : List Applied
-  pub step1 : HeadOf n front head first
+  pub step1 : HeadOf n front headLetter first
   pub step2 : AtMostOne prefixStep2 second
   pub step3 : Third third
   pub all : ms ≡ third ++ (second ++ first)
@@ -116,8 +116,8 @@ pub data Change (last failed fourth : Type 0) (c d : ℕ) : Type 0 where
 abbrev pub ChangeAt : Word → Word → ℕ → Type 0
 ChangeAt w s i =
     Change (suc i ≡ length s) (Failed (endings (kind w) (normalise w)))
-    ((isApplied prefixStep4Verb (applied w) ≡ true) × (i ≡ length (head w) + place (applied w)))
-    (getD (head w ++ run w) i 0) (getD s i 0)
+    ((isApplied prefixStep4Verb (applied w) ≡ true) × (i ≡ length (headLetter w) + place (applied w)))
+    (getD (headLetter w ++ run w) i 0) (getD s i 0)
 
 -- neither a key of A_0 nor one of 0622 to 0626
 pub record Plain (c : ℕ) : Type 0 where
@@ -134,14 +134,14 @@ pub record Demand3 (w s : Word) : Type 0 where
   pub parts : normalise w ≡ front w ++ (run w ++ back w)
   -- the front is what the changes of item 4 put into it, in their order, with at most one head letter
   pub fronts : front w ≡ frontOf (applied w)
-  pub order : InOrder (normalise w) (front w) (head w) (applied w)
+  pub order : InOrder (normalise w) (front w) (headLetter w) (applied w)
   -- at most five letters of the front go: all but the head letter
-  pub gone : length (front w) ≤ length (head w) + 5
+  pub gone : length (front w) ≤ length (headLetter w) + 5
   -- the back is the chain's rows joined, the last one cut foremost, and each was cut in its turn
   pub joins : back w ≡ joined (reverse (chain w))
   pub cut : CutInTurn (normalise w) [] (chain w)
   -- the stem is the head letter and the run, letter for letter, changed only as listed
-  pub size : length s ≡ length (head w ++ run w)
+  pub size : length s ≡ length (headLetter w ++ run w)
   pub changes : (i : ℕ) → i < length s → ChangeAt w s i
   -- it has from min(n, 2) to n letters, each of them plain
   pub least : min (length (normalise w)) 2 ≤ length s

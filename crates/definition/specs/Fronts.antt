@@ -64,19 +64,19 @@ unreplaced m = take (length (frontRow m) - length (replacement m)) (frontRow m)
 -- front: the letters taken, and the head letter. applied: the steps, the last one foremost.
 pub record Fronting : Type 0 where
   pub front : Word
-  pub head : Word
+  pub headLetter : Word
   pub passed : Word
   pub rest : Word
   pub applied : List Applied
 
 abbrev pub text : Fronting → Word
-text f = f .head ++ (f .passed ++ f .rest)
+text f = f .headLetter ++ (f .passed ++ f .rest)
 
 -- Step1 keeps one of its two letters as the head and takes the other.
 abbrev pub headed : Fronting → Applied → Fronting
 headed f m = record {
   front = f .front ++ frontRow m;
-  head = replacement m;
+  headLetter = replacement m;
   passed = f .passed;
   rest = drop (length (frontRow m)) (f .rest);
   applied = m ∷ f .applied;
@@ -86,7 +86,7 @@ headed f m = record {
 abbrev pub passing : Fronting → Applied → Fronting
 passing f m = record {
   front = f .front ++ unreplaced m;
-  head = f .head;
+  headLetter = f .headLetter;
   passed = f .passed ++ replacement m;
   rest = drop (length (frontRow m)) (f .rest);
   applied = m ∷ f .applied;
@@ -125,7 +125,7 @@ prefixSteps k = attempt (apply prefixStep1) thenTry attempt (apply prefixStep2) 
     ∷ [])
 
 unfoldable pub started : Word → Fronting
-started w = record { front = []; head = []; passed = []; rest = w; applied = [] }
+started w = record { front = []; headLetter = []; passed = []; rest = w; applied = [] }
 
 unfoldable pub fronts : Kind → Word → Fronting
 fronts k w = after (prefixSteps k (started w))

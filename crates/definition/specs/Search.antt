@@ -30,14 +30,14 @@ pub record Rule : Type 0 where
 abbrev pub rule : Table → List ℕ → Rule
 rule t least = record { table = t; guards = least }
 
-abbrev pub guard : List ℕ → ℕ → ℕ
-guard least zero = 0
-guard least (suc k) = getD least k 0
+abbrev pub leastLetters : List ℕ → ℕ → ℕ
+leastLetters least zero = 0
+leastLetters least (suc k) = getD least k 0
 
 -- class 0 stands for no match
 unfoldable pub met : List ℕ → ℕ → ℕ → Bool
 met least zero n = false
-met least (suc k) n = leb (guard least (suc k)) n
+met least (suc k) n = leb (leastLetters least (suc k)) n
 
 -- The longest row, if there is one and its guard is met by n letters. No shorter row is tried.
 unfoldable pub taken : (Word → Bool) → Rule → ℕ → Option ℕ

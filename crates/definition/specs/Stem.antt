@@ -43,8 +43,8 @@ applied w = fronting (kind w) (normalise w) .applied
 unfoldable pub front : Word → Word
 front w = fronting (kind w) (normalise w) .front
 
-unfoldable pub head : Word → Word
-head w = fronting (kind w) (normalise w) .head
+unfoldable pub headLetter : Word → Word
+headLetter w = fronting (kind w) (normalise w) .headLetter
 
 -- a normalised word n without the endings cs
 unfoldable pub without : Word → List Cut → Word

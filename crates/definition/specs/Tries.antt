@@ -31,9 +31,9 @@ module _ {A : Type 0} where
   andThen (done a) g = g a
   andThen (failed a) g = failed a
 
-  abbrev pub orElse : Try A → Step A → Try A
-  orElse (done a) g = done a
-  orElse (failed a) g = g a
+  abbrev pub ifFailed : Try A → Step A → Try A
+  ifFailed (done a) g = done a
+  ifFailed (failed a) g = g a
 
   abbrev pub whileDone : Try A → Step A → Try A
   whileDone (done a) g = g a
@@ -46,7 +46,7 @@ module _ {A : Type 0} where
   -- Snowball's `or`: the first that succeeds
   unfoldable pub firstOf : List (Step A) → Step A
   firstOf [] a = failed a
-  firstOf (f ∷ fs) a = orElse (f a) (firstOf fs)
+  firstOf (f ∷ fs) a = ifFailed (f a) (firstOf fs)
 
   -- Snowball's `repeat`: as often as it succeeds, at most n times
   unfoldable pub again : ℕ → Step A → Step A

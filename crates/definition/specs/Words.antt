@@ -16,9 +16,9 @@ abbrev pub both : Bool → Bool → Bool
 both true b = b
 both false b = false
 
-abbrev pub all {ℓ} : {A : Type ℓ} → (A → Bool) → List A → Bool
-all p [] = true
-all p (x ∷ xs) = both (p x) (all p xs)
+abbrev pub every {ℓ} : {A : Type ℓ} → (A → Bool) → List A → Bool
+every p [] = true
+every p (x ∷ xs) = both (p x) (every p xs)
 
 unfoldable pub same : Word → Word → Bool
 same [] [] = true

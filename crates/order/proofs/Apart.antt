@@ -6,7 +6,7 @@ use mathlib.Core.Option.{Option, none, some}
 use Prim.Native.Nat.{ℕ}
 use lib.ListN.{length}
 use borrow.Author.Tests.{not-true}
-use Rattle.definition.specs.Words.{Word, all, endsWith}
+use Rattle.definition.specs.Words.{Word, every, endsWith}
 use Rattle.definition.specs.Tables.{Row, Table}
 use Rattle.definition.specs.Search.{rowAt, taken}
 use Rattle.definition.specs.Tries.{done, failed}
@@ -19,7 +19,7 @@ use Rattle.order.proofs.Exchange.{Fails, Clean}
 
 -- no row of the one table can be an end of one word with a row of the other
 abbrev pub apart : Table → Table → Bool
-apart t u = all (λ (k : Row). all (λ (m : Row). not (compatible (k .letters) (m .letters))) u) t
+apart t u = every (λ (k : Row). every (λ (m : Row). not (compatible (k .letters) (m .letters))) u) t
 
 pub cut-idle : (s : SuffixStep) (v : Cutting) → Idle s v → Fails (cut s) v
 unfolding cut
@@ -46,5 +46,5 @@ one-idle s t c v = go (taken (endsWith (v .text)) (suffix s) (length (v .text)))
         let k : Word = rowAt (suffix s .table) r .letters in
         let m : Word = rowAt (suffix t .table) q .letters in
         let x = all-at (λ (i : Row). not (compatible k (i .letters))) (suffix t .table)
-        (all-at (λ (j : Row). all (λ (i : Row). not (compatible (j .letters) (i .letters))) (suffix t .table)) (suffix s .table) c r (a .inside)) q (b .inside) in
+        (all-at (λ (j : Row). every (λ (i : Row). not (compatible (j .letters) (i .letters))) (suffix t .table)) (suffix s .table) c r (a .inside)) q (b .inside) in
         absurd (clash (fits (v .text) k m (a .matches) (b .matches)) (not-true (compatible k m) x))

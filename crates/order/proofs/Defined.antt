@@ -9,7 +9,7 @@ use native.Mathlib.Omega.{arith}
 use lib.Dec.{eqb}
 use lib.ListN.{length, drop, getD}
 use Rattle.definition.specs.Letters.{alef, beh, kaf, lam, alefMaksura}
-use Rattle.definition.specs.Words.{Word, all, same, beginsWith}
+use Rattle.definition.specs.Words.{Word, every, same, beginsWith}
 use Rattle.definition.specs.Tables.{Row, «A_0», «A_3», «A_4», «A_5», «A_7»}
 use Rattle.definition.specs.Search.{rule, rowAt, longer, longest, taken}
 use Rattle.definition.specs.Tries.{Step, Try, done, failed, after, _thenTry_, firstOf, attempt}
@@ -107,7 +107,7 @@ if-opened (failed v) t o = subst (λ (w : Word). Opened (suffixAllAlefMaqsura w)
 
 -- ---- the other fronts have no row for them
 abbrev none-fits : PrefixStep → Word → Bool
-none-fits s key = all (λ (m : Row). either (not (together key (m .letters))) (beginsWithAny key (notAt s))) (prefix s .table)
+none-fits s key = every (λ (m : Row). either (not (together key (m .letters))) (beginsWithAny key (notAt s))) (prefix s .table)
 
 opening-fits : (a b : ℕ) → Opening a b
     → (none-fits prefixStep1 (a ∷ b ∷ []) ≡ true) × (none-fits prefixStep2 (a ∷ b ∷ []) ≡ true) × (none-fits prefixStep3bNoun (a ∷ b ∷ []) ≡ true)

@@ -5,10 +5,10 @@ use mathlib.Core.Logic.{_⊎_, inl, inr}
 use mathlib.Core.List.{List, [], _∷_}
 use Prim.Native.Nat.{ℕ}
 use lib.ListN.{length}
-use Rattle.definition.specs.Words.{Word, all, same, endsWith}
+use Rattle.definition.specs.Words.{Word, every, same, endsWith}
 use Rattle.definition.specs.Tables.{«A_10», «A_11», «A_12», «A_13», «A_15», «A_17», «A_18», «A_19», «A_20»}
 use Rattle.definition.specs.Search.{longer, longest}
-use Rattle.definition.specs.Tries.{Step, Try, done, failed, nothing, andThen, orElse, _thenTry_, firstOf, again}
+use Rattle.definition.specs.Tries.{Step, Try, done, failed, nothing, andThen, ifFailed, _thenTry_, firstOf, again}
 use Rattle.definition.specs.Kind.{Kind, OPEN, DEFINED, ifOpen}
 use Rattle.definition.specs.Endings.{SuffixStep, verbStep1, verbStep2a, verbStep2b, verbStep2c, nounStep1a, nounStep1b, nounStep2a, nounStep2b, nounStep2c1, nounStep2c2, nounStep3, suffix, Cutting, cut, verb}
 use Rattle.definition.proofs.Triples.{Ends}
@@ -108,8 +108,8 @@ nouns-3 k n = λ i. firstOf (ifOpen k (verbBy unexchanged) ∷ (whole i thenTry 
         ≡ firstOf (
         cut nounStep2c2 ∷ ifOpen k (cut nounStep1a thenTry sequel) ∷ (cut nounStep1b thenTry firstOf (cut nounStep2a ∷ cut nounStep2b ∷ cut nounStep2c1 ∷ []))
         ∷ ifOpen k (cut nounStep2a) ∷ cut nounStep2b ∷ nothing ∷ [])
-    whole = λ i v. orElse (cut nounStep2c2 v) (λ (a : Cutting). orElse (ifOpen k (cut nounStep1a thenTry sequel) a)
-        (λ (b : Cutting). orElse ((cut nounStep1b thenTry firstOf (cut nounStep2a ∷ cut nounStep2b ∷ cut nounStep2c1 ∷ [])) b)
+    whole = λ i v. ifFailed (cut nounStep2c2 v) (λ (a : Cutting). ifFailed (ifOpen k (cut nounStep1a thenTry sequel) a)
+        (λ (b : Cutting). ifFailed ((cut nounStep1b thenTry firstOf (cut nounStep2a ∷ cut nounStep2b ∷ cut nounStep2c1 ∷ [])) b)
         (λ (c : Cutting). go k c (one-idle nounStep2a nounStep2b apart-2a-2b c) i)))
 
 -- behind Step1b: Step2a | Step2b
@@ -125,7 +125,7 @@ step1bSequel-0 k n = λ i. firstOf (ifOpen k (verbBy unexchanged) ∷ (firstOf (
     ∷ []) thenTry cut nounStep3) ∷ maqsura ∷ []) (record { text = n; cuts = [] })
 
 -- ---- where the verb has failed, neither Step1a nor Step1b takes a row
-covered-1b : all (coveredRow nounStep1b) (suffix nounStep1b .table) ≡ true
+covered-1b : every (coveredRow nounStep1b) (suffix nounStep1b .table) ≡ true
 unfolding suffix «A_11» «A_17» «A_18» endsWith same longest longer
 covered-1b = refl
 
@@ -137,17 +137,17 @@ module _ (x : Pair) where
       → (k : Kind) (n : Word) → firstOf (ifOpen k (verbBy x) ∷ nounBy x k ∷ maqsura ∷ []) (record { text = n; cuts = [] })
       ≡ firstOf (ifOpen k verb ∷ nounBy unexchanged k ∷ maqsura ∷ []) (record { text = n; cuts = [] })
   unfolding firstOf
-  at-noun e d o DEFINED n = ap (λ (t : Try Cutting). orElse t (firstOf (maqsura ∷ []))) (d (record { text = n; cuts = [] }))
-  at-noun e d o OPEN n = (λ i. orElse (e i w) (firstOf (nounBy x OPEN ∷ maqsura ∷ []))) ∙ go (verb w) (verb-ends w tt)
+  at-noun e d o DEFINED n = ap (λ (t : Try Cutting). ifFailed t (firstOf (maqsura ∷ []))) (d (record { text = n; cuts = [] }))
+  at-noun e d o OPEN n = (λ i. ifFailed (e i w) (firstOf (nounBy x OPEN ∷ maqsura ∷ []))) ∙ go (verb w) (verb-ends w tt)
     where
       w : Cutting
       w = record { text = n; cuts = [] }
 
       go : (t : Try Cutting) → Ends Spared (Untaken w tt) t
-          → orElse t (firstOf (nounBy x OPEN ∷ maqsura ∷ [])) ≡ orElse t (firstOf (nounBy unexchanged OPEN ∷ maqsura ∷ []))
+          → ifFailed t (firstOf (nounBy x OPEN ∷ maqsura ∷ [])) ≡ ifFailed t (firstOf (nounBy unexchanged OPEN ∷ maqsura ∷ []))
       go (done v) h = refl
       go (failed v) h = subst (λ (u : Cutting). firstOf (nounBy x OPEN ∷ maqsura ∷ []) u ≡ firstOf (nounBy unexchanged OPEN ∷ maqsura ∷ []) u) (sym (h .same))
-          (ap (λ (t : Try Cutting). orElse t (firstOf (maqsura ∷ [])))
+          (ap (λ (t : Try Cutting). ifFailed t (firstOf (maqsura ∷ [])))
           (o w (cut-idle nounStep1a w (idle-by nounStep1a w covered-1a (h .one) (h .two))) (cut-idle nounStep1b w (idle-by nounStep1b w covered-1b (h .one) (h .two)))))
 
 -- what follows Step2c2 matters only where Step2c2 fails

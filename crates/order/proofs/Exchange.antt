@@ -3,7 +3,7 @@ use mathlib.Core.Path.{_≡_, refl, sym, ap, _∙_}
 use mathlib.Core.Logic.{_⊎_, inl, inr}
 use mathlib.Core.List.{List, [], _∷_}
 use Prim.Native.Nat.{ℕ, zero, suc}
-use Rattle.definition.specs.Tries.{Step, Try, done, failed, nothing, andThen, orElse, whileDone, _thenTry_, firstOf, again}
+use Rattle.definition.specs.Tries.{Step, Try, done, failed, nothing, andThen, ifFailed, whileDone, _thenTry_, firstOf, again}
 use Rattle.definition.specs.Kind.{Kind, OPEN, DEFINED, ifOpen}
 
 module _ {A : Type 0} where
@@ -20,11 +20,11 @@ module _ {A : Type 0} where
 
   pub first-fails : (f : Step A) (fs : List (Step A)) (a : A) → Fails f a → firstOf (f ∷ fs) a ≡ firstOf fs a
   unfolding firstOf
-  first-fails f fs a p = ap (λ (t : Try A). orElse t (firstOf fs)) p
+  first-fails f fs a p = ap (λ (t : Try A). ifFailed t (firstOf fs)) p
 
   pub first-succeeds : (f : Step A) (fs : List (Step A)) (a : A) (s : Succeeds f a) → firstOf (f ∷ fs) a ≡ done (s .0)
   unfolding firstOf
-  first-succeeds f fs a s = ap (λ (t : Try A). orElse t (firstOf fs)) (s .1)
+  first-succeeds f fs a s = ap (λ (t : Try A). ifFailed t (firstOf fs)) (s .1)
 
   pub one-fails : (f g : Step A) (fs : List (Step A)) (a : A) → Fails f a → Clean g a → firstOf (f ∷ g ∷ fs) a ≡ firstOf (g ∷ f ∷ fs) a
   one-fails f g fs a p (inl s) = first-fails f (g ∷ fs) a p ∙ first-succeeds g fs a s ∙ sym (first-succeeds g (f ∷ fs) a s)
@@ -44,7 +44,7 @@ module _ {A : Type 0} where
   unfolding firstOf
   or-succeeds f fs h a = go (f a)
     where
-      go : (t : Try A) → (b : A) × (orElse t (firstOf fs) ≡ done b)
+      go : (t : Try A) → (b : A) × (ifFailed t (firstOf fs) ≡ done b)
       go (done b) = (b, refl)
       go (failed b) = h b
 

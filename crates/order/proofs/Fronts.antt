@@ -10,10 +10,10 @@ use lib.Dec.{leb}
 use lib.ListN.{length, take, drop, getD}
 use lib.Seq.{take-take}
 use borrow.Author.Tests.{leb-true, leb-false, not-true}
-use Rattle.definition.specs.Words.{Word, all, same, beginsWith}
+use Rattle.definition.specs.Words.{Word, every, same, beginsWith}
 use Rattle.definition.specs.Tables.{Row, «A_6», «A_7», «A_8», «A_9»}
 use Rattle.definition.specs.Search.{rowAt, taken}
-use Rattle.definition.specs.Tries.{Step, Try, done, failed, after, orElse, _thenTry_, firstOf, attempt}
+use Rattle.definition.specs.Tries.{Step, Try, done, failed, after, ifFailed, _thenTry_, firstOf, attempt}
 use Rattle.definition.specs.Kind.{Kind, OPEN, DEFINED, ifOpen}
 use Rattle.definition.specs.Fronts.{PrefixStep, prefixStep1, prefixStep2, prefixStep3aNoun, prefixStep3bNoun, prefixStep3Verb, prefixStep4Verb, prefix, replacements, notAt, at, frontRow, replacement, Fronting, text, change, beginsWithAny, applyBy, applyUnless, apply, started}
 use Rattle.definition.proofs.Match.{either, either-right, either-not, by, clash, same-eq, same-refl, begins-split, begins-of}
@@ -85,7 +85,7 @@ apply-clean s f = go (takes s f)
 
 -- ---- a cursor that goes back to where nothing was passed
 back-same : (f : Fronting) → f .passed ≡ [] → back f ≡ f
-back-same f e = λ i. record { front = f .front; head = f .head; passed = sym e i; rest = e i ++ f .rest; applied = f .applied }
+back-same f e = λ i. record { front = f .front; headLetter = f .headLetter; passed = sym e i; rest = e i ++ f .rest; applied = f .applied }
 
 pub here-fails : (g : Step Fronting) (f : Fronting) → f .passed ≡ [] → Fails g f → Fails (fromHere g) f
 here-fails g f e p = ap backIfFailed p ∙ ap failed (back-same f e)
@@ -96,7 +96,7 @@ here-clean g f e (inr p) = inr (here-fails g f e p)
 
 -- ---- rows that exclude each other
 -- a row of Step3a_Noun and one of Step3b_Noun can stand in front of one word only where Step3b_Noun fails
-apart-3a-3b : all (λ (k : Row). all (λ (m : Row). either (not (together (k .letters) (m .letters))) (beginsWithAny (k .letters) (notAt prefixStep3bNoun))) (prefix prefixStep3bNoun .table)) (prefix prefixStep3aNoun .table) ≡ true
+apart-3a-3b : every (λ (k : Row). every (λ (m : Row). either (not (together (k .letters) (m .letters))) (beginsWithAny (k .letters) (notAt prefixStep3bNoun))) (prefix prefixStep3bNoun .table)) (prefix prefixStep3aNoun .table) ≡ true
 unfolding prefix notAt «A_6» «A_7» beginsWith same
 apart-3a-3b = refl
 
@@ -116,7 +116,7 @@ one-noun f = go (takes prefixStep3aNoun f) (takes prefixStep3bNoun f)
 
 -- no row of Step3b_Noun stands in front of one word with a row of the verb's fronts
 abbrev apartFronts : PrefixStep → PrefixStep → Bool
-apartFronts s t = all (λ (k : Row). all (λ (m : Row). not (together (k .letters) (m .letters))) (prefix t .table)) (prefix s .table)
+apartFronts s t = every (λ (k : Row). every (λ (m : Row). not (together (k .letters) (m .letters))) (prefix t .table)) (prefix s .table)
 
 apart-3b-3v : apartFronts prefixStep3bNoun prefixStep3Verb ≡ true
 unfolding prefix «A_7» «A_8» beginsWith same
@@ -138,7 +138,7 @@ other-fails s t c f a = go (takes t f)
         absurd (clash (front-fits (f .rest) (k .letters) (m .letters) (a .taken .matches) (b .taken .matches)) (not-true (together (k .letters) (m .letters)) x))
 
 -- nor with what Step3_Verb puts for a row
-apart-new : all (λ (k : Row). all (λ (m : Row). not (together (getD (replacements prefixStep3Verb) (k .class - 1) []) (m .letters))) (prefix prefixStep3bNoun .table)) (prefix prefixStep3Verb .table) ≡ true
+apart-new : every (λ (k : Row). every (λ (m : Row). not (together (getD (replacements prefixStep3Verb) (k .class - 1) []) (m .letters))) (prefix prefixStep3bNoun .table)) (prefix prefixStep3Verb .table) ≡ true
 unfolding prefix replacements «A_7» «A_8» beginsWith same
 apart-new = refl
 
@@ -249,8 +249,8 @@ module _ (n : Word) where
           let v : fromHere (verb-fronts OPEN) f ≡ failed (back h) = ap backIfFailed q in
           let z : Fails b (back h) = here-fails (apply prefixStep3bNoun) (back h) refl (fails-behind p (takes prefixStep3Verb f)) in
           ap (λ (x : Try Fronting). text (after x))
-          (ap (λ (x : Try Fronting). orElse x (firstOf (b ∷ []))) v ∙ first-fails b [] (back h) z
-          ∙ sym (first-fails b (fromHere (verb-fronts OPEN) ∷ []) f (here-fails (apply prefixStep3bNoun) f (bare n) p) ∙ ap (λ (x : Try Fronting). orElse x (firstOf [])) v))
+          (ap (λ (x : Try Fronting). ifFailed x (firstOf (b ∷ []))) v ∙ first-fails b [] (back h) z
+          ∙ sym (first-fails b (fromHere (verb-fronts OPEN) ∷ []) f (here-fails (apply prefixStep3bNoun) f (bare n) p) ∙ ap (λ (x : Try Fronting). ifFailed x (firstOf [])) v))
 
   -- both orders behind Step3a_Noun
   behind-3a : (gs hs : List (Step Fronting)) → text (after (firstOf gs f)) ≡ text (after (firstOf hs f))

@@ -7,7 +7,7 @@ use native.Mathlib.Omega.{arith}
 use lib.Dec.{leb}
 use Rattle.definition.specs.Letters.{alefMadda, yehHamza, alefMaksura}
 use Rattle.definition.specs.Words.{Word, both, endsWith}
-use Rattle.definition.specs.Tries.{Step, Try, done, failed, after, orElse, _thenTry_, firstOf, attempt}
+use Rattle.definition.specs.Tries.{Step, Try, done, failed, after, ifFailed, _thenTry_, firstOf, attempt}
 use Rattle.definition.specs.Kind.{Kind, ifOpen, kind}
 use Rattle.definition.specs.Normal.{normalise}
 use Rattle.definition.specs.Endings.{Cutting, verb, noun, endings, suffixAllAlefMaqsura, maqsuraIfFailed}
@@ -33,11 +33,11 @@ three : (f g : Step Cutting) (w : Cutting)
 unfolding firstOf maqsuraIfFailed
 three f g w = one (f w)
   where
-    two : (t : Try Cutting) → after (orElse t (firstOf (maqsura ∷ []))) .text ≡ maqsuraIfFailed (orElse t (firstOf [])) (after (orElse t (firstOf [])) .text)
+    two : (t : Try Cutting) → after (ifFailed t (firstOf (maqsura ∷ []))) .text ≡ maqsuraIfFailed (ifFailed t (firstOf [])) (after (ifFailed t (firstOf [])) .text)
     two (done b) = refl
     two (failed b) = maqsura-step b
 
-    one : (t : Try Cutting) → after (orElse t (firstOf (g ∷ maqsura ∷ []))) .text ≡ maqsuraIfFailed (orElse t (firstOf (g ∷ []))) (after (orElse t (firstOf (g ∷ []))) .text)
+    one : (t : Try Cutting) → after (ifFailed t (firstOf (g ∷ maqsura ∷ []))) .text ≡ maqsuraIfFailed (ifFailed t (firstOf (g ∷ []))) (after (ifFailed t (firstOf (g ∷ []))) .text)
     one (done b) = refl
     one (failed b) = two (g b)
 
@@ -58,7 +58,7 @@ module _ (f : Fronting) (e : f .passed ≡ []) where
   unfolding firstOf
   last-same g = go (g f)
     where
-      go : (t : Try Fronting) → text (after (orElse (backIfFailed t) (firstOf []))) ≡ text (after (orElse t (firstOf [])))
+      go : (t : Try Fronting) → text (after (ifFailed (backIfFailed t) (firstOf []))) ≡ text (after (ifFailed t (firstOf [])))
       go (done x) = refl
       go (failed x) = refl
 

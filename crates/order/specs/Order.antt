@@ -93,7 +93,7 @@ maqsura v = pick (endsWith (v .text) (alefMaksura ∷ [])) (done (record { text 
 
 -- Item 4: where an alternative fails, the cursor goes back to where it stood before Step3, when nothing was passed yet.
 abbrev pub back : Fronting → Fronting
-back f = record { front = f .front; head = f .head; passed = []; rest = f .passed ++ f .rest; applied = f .applied }
+back f = record { front = f .front; headLetter = f .headLetter; passed = []; rest = f .passed ++ f .rest; applied = f .applied }
 
 abbrev pub backIfFailed : Try Fronting → Try Fronting
 backIfFailed (done f) = done f

@@ -9,7 +9,7 @@ use native.Mathlib.Omega.{arith}
 use lib.ListN.{length, getD}
 use lib.Dec.{leb}
 use borrow.Author.Tests.{leb-true, leb-false}
-use Rattle.snowball.specs.Rows.{before, none}
+use Rattle.snowball.specs.Rows.{before, noLink}
 use Rattle.snowball.specs.Search.{lcp, Halved, Walked, hit, out, on}
 use Rattle.snowball.proofs.Order.{bool-case, Begins, lcp-right, lcp-sym, lcp-self, ultra, between, before-trans, not-begin, not-before}
 use Rattle.snowball.proofs.Table.{Table}
@@ -102,10 +102,10 @@ module _ {us : List (List ℕ)} {ns js : List ℕ} (t : Table us ns js) (s : Lis
         let c : Begins (K k) (K i) = R .covers k kl m in
         ⊎-elim (λ z. absurd (R .not-in i l (self (K i)) h (ultra (length (K i)) (K i) (K k) s (flip (length (K i)) (K k) (K i) (omega arith)) (omega arith)))) (λ z. z) (two (length (K i)) (length (K k)))
 
-    out-nothing : q < length (getD us i []) → getD js i 0 ≡ none → Nothing us s
+    out-nothing : q < length (getD us i []) → getD js i 0 ≡ noLink → Nothing us s
     out-nothing h e k kl m = t .unlinked i l e k kl (R .covers k kl m) (shorter h k kl m)
 
-    module _ (h : q < length (getD us i [])) (ne : getD js i 0 ≡ none → ⊥) where
+    module _ (h : q < length (getD us i [])) (ne : getD js i 0 ≡ noLink → ⊥) where
       j : ℕ
       j = getD js i 0
 

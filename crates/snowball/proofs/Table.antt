@@ -7,8 +7,8 @@ use native.Mathlib.Nat.{le-of-suc-le-suc, not-suc-le-zero, add-zero, zero-add, a
 use lib.ListN.{length, getD}
 use lib.Dec.{T, leb, ltb, eqb, leb→le, ltb→lt, eqb→eq}
 use borrow.Author.Tests.{lt-ltb, eq-eqb, ne-eqb}
-use Rattle.definition.specs.Words.{pick, both, all}
-use Rattle.snowball.specs.Rows.{before, begins, rising, proper, none, linkIs, linked, sized, ordered, wellFormed}
+use Rattle.definition.specs.Words.{pick, both, every}
+use Rattle.snowball.specs.Rows.{before, begins, rising, proper, noLink, linkIs, linked, sized, ordered, wellFormed}
 use Rattle.snowball.proofs.Order.{Begins, begins-true, true-begins}
 
 both-left : (a b : Bool) → T (both a b) → T a
@@ -23,18 +23,18 @@ is-true : (b : Bool) → T b → b ≡ true
 is-true true t = refl
 is-true false t = absurd t
 
-all-at : (f : List ℕ → Bool) (us : List (List ℕ)) → T (all f us) → (k : ℕ) → k < length us → T (f (getD us k []))
+all-at : (f : List ℕ → Bool) (us : List (List ℕ)) → T (every f us) → (k : ℕ) → k < length us → T (f (getD us k []))
 all-at f [] t k h = absurd (not-suc-le-zero h)
-all-at f (u ∷ us) t zero h = both-left (f u) (all f us) t
-all-at f (u ∷ us) t (suc k) h = all-at f us (both-right (f u) (all f us) t) k (le-of-suc-le-suc h)
+all-at f (u ∷ us) t zero h = both-left (f u) (every f us) t
+all-at f (u ∷ us) t (suc k) h = all-at f us (both-right (f u) (every f us) t) k (le-of-suc-le-suc h)
 
 rising-at : (us : List (List ℕ)) → T (rising us) → (a b : ℕ) → a < b → b < length us → before (getD us a []) (getD us b []) ≡ true
 rising-at [] t a b h k = absurd (not-suc-le-zero k)
 rising-at (u ∷ us) t a zero h k = absurd (not-suc-le-zero h)
 rising-at (u ∷ us) t zero (suc b) h k =
-    is-true (before u (getD us b [])) (all-at (before u) us (both-left (all (before u) us) (rising us) t) b (le-of-suc-le-suc k))
+    is-true (before u (getD us b [])) (all-at (before u) us (both-left (every (before u) us) (rising us) t) b (le-of-suc-le-suc k))
 rising-at (u ∷ us) t (suc a) (suc b) h k =
-    rising-at us (both-right (all (before u) us) (rising us) t) a b (le-of-suc-le-suc h) (le-of-suc-le-suc k)
+    rising-at us (both-right (every (before u) us) (rising us) t) a b (le-of-suc-le-suc h) (le-of-suc-le-suc k)
 
 sized-length : (us : List (List ℕ)) (ns : List ℕ) → T (sized us ns) → length ns ≡ length us
 sized-length [] [] t = refl
@@ -92,7 +92,7 @@ pick-false false x y e t = t
 -- what the halving needs of a table
 pub record Rows (us : List (List ℕ)) (ns : List ℕ) : Type 0 where
   pub one : 1 ≤ length us
-  pub few : length us ≤ none
+  pub few : length us ≤ noLink
   pub ns-length : length ns ≡ length us
   pub size : (k : ℕ) → k < length us → length (getD us k []) ≡ getD ns k 0
   pub least : (k : ℕ) → k < length us → 1 ≤ getD ns k 0
@@ -104,10 +104,10 @@ pub record Table (us : List (List ℕ)) (ns js : List ℕ) : Type 0 where
   pub test : T (ordered us ns)
   pub rows : Rows us ns
   pub js-length : length js ≡ length us
-  pub unlinked : (i : ℕ) → i < length us → getD js i 0 ≡ none → (k : ℕ) → k < length us → Begins (getD us k []) (getD us i []) → length (getD us k []) < length (getD us i []) → ⊥
-  pub smaller : (i : ℕ) → i < length us → (getD js i 0 ≡ none → ⊥) → getD js i 0 < i
-  pub link-begins : (i : ℕ) → i < length us → (getD js i 0 ≡ none → ⊥) → Begins (getD us (getD js i 0) []) (getD us i [])
-  pub link-longest : (i : ℕ) → i < length us → (getD js i 0 ≡ none → ⊥) → (k : ℕ) → k < length us → Begins (getD us k []) (getD us i []) → length (getD us k []) < length (getD us i []) → length (getD us k []) ≤ length (getD us (getD js i 0) [])
+  pub unlinked : (i : ℕ) → i < length us → getD js i 0 ≡ noLink → (k : ℕ) → k < length us → Begins (getD us k []) (getD us i []) → length (getD us k []) < length (getD us i []) → ⊥
+  pub smaller : (i : ℕ) → i < length us → (getD js i 0 ≡ noLink → ⊥) → getD js i 0 < i
+  pub link-begins : (i : ℕ) → i < length us → (getD js i 0 ≡ noLink → ⊥) → Begins (getD us (getD js i 0) []) (getD us i [])
+  pub link-longest : (i : ℕ) → i < length us → (getD js i 0 ≡ noLink → ⊥) → (k : ℕ) → k < length us → Begins (getD us k []) (getD us i []) → length (getD us k []) < length (getD us i []) → length (getD us k []) ≤ length (getD us (getD js i 0) [])
 
 module _ (us : List (List ℕ)) (js : List ℕ) (t : T (linked us 0 us js)) (i : ℕ) (h : i < length us) where
   v : List ℕ
@@ -120,19 +120,19 @@ module _ (us : List (List ℕ)) (js : List ℕ) (t : T (linked us 0 us js)) (i :
   unfolding v j
   here = linked-at us js t i h
 
-  no-link : getD js i 0 ≡ none → (k : ℕ) → k < length us → Begins (getD us k []) (getD us i []) → length (getD us k []) < length (getD us i []) → ⊥
+  no-link : getD js i 0 ≡ noLink → (k : ℕ) → k < length us → Begins (getD us k []) (getD us i []) → length (getD us k []) < length (getD us i []) → ⊥
   unfolding v j
   no-link e k l b m =
       not-both (proper (getD us k []) v)
-      (all-at (λ u. not (proper u v)) us (pick-true (eqb j none) _ _ (eq-eqb j none e) here) k l)
+      (all-at (λ u. not (proper u v)) us (pick-true (eqb j noLink) _ _ (eq-eqb j noLink e) here) k l)
       (proper-true (getD us k []) v b m)
 
-  module _ (ne : getD js i 0 ≡ none → ⊥) where
-    a-link : T (both (ltb j i) (both (proper (getD us j []) v) (all (λ u. pick (proper u v) (leb (length u) (length (getD us j []))) true) us)))
+  module _ (ne : getD js i 0 ≡ noLink → ⊥) where
+    a-link : T (both (ltb j i) (both (proper (getD us j []) v) (every (λ u. pick (proper u v) (leb (length u) (length (getD us j []))) true) us)))
     unfolding j v
-    a-link = pick-false (eqb j none) _ _ (ne-eqb j none ne) here
+    a-link = pick-false (eqb j noLink) _ _ (ne-eqb j noLink ne) here
 
-    rest : T (both (proper (getD us j []) v) (all (λ u. pick (proper u v) (leb (length u) (length (getD us j []))) true) us))
+    rest : T (both (proper (getD us j []) v) (every (λ u. pick (proper u v) (leb (length u) (length (getD us j []))) true) us))
     rest = both-right (ltb j i) _ a-link
 
     link-smaller : getD js i 0 < i
@@ -150,12 +150,12 @@ module _ (us : List (List ℕ)) (js : List ℕ) (t : T (linked us 0 us js)) (i :
 
 pub in-rows : (us : List (List ℕ)) (ns : List ℕ) → T (ordered us ns) → Rows us ns
 in-rows us ns t =
-    let a = both-left (both (leb 1 (length us)) (leb (length us) none)) (both (sized us ns) (rising us)) t in
-    let b = both-right (both (leb 1 (length us)) (leb (length us) none)) (both (sized us ns) (rising us)) t in
+    let a = both-left (both (leb 1 (length us)) (leb (length us) noLink)) (both (sized us ns) (rising us)) t in
+    let b = both-right (both (leb 1 (length us)) (leb (length us) noLink)) (both (sized us ns) (rising us)) t in
     let sz = both-left (sized us ns) (rising us) b in
     record {
-      one = leb→le 1 (length us) (both-left (leb 1 (length us)) (leb (length us) none) a);
-      few = leb→le (length us) none (both-right (leb 1 (length us)) (leb (length us) none) a);
+      one = leb→le 1 (length us) (both-left (leb 1 (length us)) (leb (length us) noLink) a);
+      few = leb→le (length us) noLink (both-right (leb 1 (length us)) (leb (length us) noLink) a);
       ns-length = sized-length us ns sz;
       size = λ k h. sized-at us ns sz k h .0;
       least = λ k h. sized-at us ns sz k h .1;

@@ -4,7 +4,7 @@ use mathlib.Core.Bool.{Bool, true, false, not}
 use mathlib.Core.List.{List, [], _∷_, reverse}
 use lib.ListN.{length, take, getD}
 use lib.Dec.{leb, ltb, eqb}
-use Rattle.definition.specs.Words.{Word, pick, both, all}
+use Rattle.definition.specs.Words.{Word, pick, both, every}
 use Rattle.definition.specs.Tables.{Row, Table}
 use Rattle.utf8.specs.Utf8.{encode}
 
@@ -32,7 +32,7 @@ before (x ∷ u) (y ∷ s) = pick (eqb x y) (before u s) (ltb x y)
 -- each key comes before every later one
 abbrev pub rising : List (List ℕ) → Bool
 rising [] = true
-rising (u ∷ us) = both (all (before u) us) (rising us)
+rising (u ∷ us) = both (every (before u) us) (rising us)
 
 -- s begins with u
 abbrev pub begins : List ℕ → List ℕ → Bool
@@ -45,14 +45,14 @@ abbrev pub proper : List ℕ → List ℕ → Bool
 proper u v = both (begins u v) (ltb (length u) (length v))
 
 -- the mark for: no link
-abbrev pub none : ℕ
-none = 255
+abbrev pub noLink : ℕ
+noLink = 255
 
 -- j is the link of row i, whose key is v: the number of the longest of the keys us that v begins with and is longer than, or none
 abbrev pub linkIs : List (List ℕ) → ℕ → List ℕ → ℕ → Bool
-linkIs us i v j = pick (eqb j none)
-    (all (λ u. not (proper u v)) us)
-    (both (ltb j i) (both (proper (getD us j []) v) (all (λ u. pick (proper u v) (leb (length u) (length (getD us j []))) true) us)))
+linkIs us i v j = pick (eqb j noLink)
+    (every (λ u. not (proper u v)) us)
+    (both (ltb j i) (both (proper (getD us j []) v) (every (λ u. pick (proper u v) (leb (length u) (length (getD us j []))) true) us)))
 
 abbrev pub linked : List (List ℕ) → ℕ → List (List ℕ) → List ℕ → Bool
 linked us i [] [] = true
@@ -69,7 +69,7 @@ sized (u ∷ us) (n ∷ ns) = both (both (eqb (length u) n) (both (leb 1 n) (leb
 
 -- 1 to 255 rows, with their lengths, that rise: what the halving needs
 abbrev pub ordered : List (List ℕ) → List ℕ → Bool
-ordered us ns = both (both (leb 1 (length us)) (leb (length us) none)) (both (sized us ns) (rising us))
+ordered us ns = both (both (leb 1 (length us)) (leb (length us) noLink)) (both (sized us ns) (rising us))
 
 -- and each has its link
 abbrev pub wellFormed : List (List ℕ) → List ℕ → List ℕ → Bool

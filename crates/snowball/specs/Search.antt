@@ -10,7 +10,7 @@ use Rattle.definition.specs.Words.{Word, pick, beginsWith, endsWith}
 use Rattle.definition.specs.Tables.{Table}
 use Rattle.definition.specs.Search.{rowAt, longest}
 use Rattle.utf8.specs.Places.{size}
-use Rattle.snowball.specs.Rows.{before, none}
+use Rattle.snowball.specs.Rows.{before, noLink}
 use Rattle.snowball.specs.declared.among.Found.{Found}
 
 -- the bytes of a text from one place up to another
@@ -57,5 +57,5 @@ pub record Halved (us : List (List ℕ)) (s : List ℕ) (row common : ℕ) : Typ
 -- The walk over the links from row i, with q bytes in common: it ends at the first row of at most q bytes, or behind the last row where there is none.
 pub data Walked (ns js : List ℕ) (q : ℕ) : ℕ → ℕ → Type 0 where
   hit : {i : ℕ} → getD ns i 0 ≤ q → Walked ns js q i i
-  out : {i : ℕ} → q < getD ns i 0 → getD js i 0 ≡ none → Walked ns js q i (length ns)
-  on : {i r : ℕ} → q < getD ns i 0 → (getD js i 0 ≡ none → ⊥) → Walked ns js q (getD js i 0) r → Walked ns js q i r
+  out : {i : ℕ} → q < getD ns i 0 → getD js i 0 ≡ noLink → Walked ns js q i (length ns)
+  on : {i r : ℕ} → q < getD ns i 0 → (getD js i 0 ≡ noLink → ⊥) → Walked ns js q (getD js i 0) r → Walked ns js q i r

@@ -4,7 +4,7 @@ use mathlib.Core.Bool.{true, not}
 use mathlib.Core.List.{List, [], _∷_}
 use mathlib.Core.Option.{some}
 use Prim.Native.Nat.{ℕ}
-use Rattle.definition.specs.Words.{Word, all, beginsWith, endsWith}
+use Rattle.definition.specs.Words.{Word, every, beginsWith, endsWith}
 use Rattle.utf8.specs.Utf8.{Scalars, encode, decode, wellFormed}
 use Rattle.utf8.proofs.Encoding.{decode-encode}
 use Rattle.utf8.proofs.Text.{sound, well-formed-text, text-well-formed, encode-injective}
@@ -36,7 +36,7 @@ pub main-end : (w key : Word) → Scalars w → Scalars key → endsWith (encode
 main-end = end-bytes
 
 -- the edges of well-formedness: what is accepted, and what is refused
-pub main-edges : (all wellFormed accepted ≡ true) × (all (λ bs. not (wellFormed bs)) refused ≡ true)
+pub main-edges : (every wellFormed accepted ≡ true) × (every (λ bs. not (wellFormed bs)) refused ≡ true)
 main-edges = edges
 
 -- one letter encoded, and one decoded

@@ -6,7 +6,7 @@ use native.Mathlib.Omega.{arith}
 use lib.ListN.{length}
 use borrow.Author.Tests.{leb-true, leb-false}
 use borrow.Author.Needs.{needs}
-use Rattle.definition.specs.Search.{guard}
+use Rattle.definition.specs.Search.{leastLetters}
 use Rattle.definition.specs.Endings.{suffix}
 use Rattle.arabic.proofs.Guarded.{from-start}
 use Rattle.arabic.proofs.Ending.{no-row, too-short, long-enough}
@@ -42,7 +42,7 @@ returns-2 c =
       λ s q p k w sc e.
           let b = f .find-among-b .ensures .1 (suffix s .table) q p w sc (from-start (a .text .now) (a .limit) ∙ e) in
           long-enough s w (a .limit) (f .find-among-b .result) b (g .before .if1 .left) (length w) (g .least-letters .result) refl
-          (g .least-letters .ensures ∙ ap (λ (x : List ℕ). guard x (f .find-among-b .result .class)) k)
+          (g .least-letters .ensures ∙ ap (λ (x : List ℕ). leastLetters x (f .find-among-b .result .class)) k)
           (leb-true (g .least-letters .result) (length w) (sym (h .has-chars .ensures .0 w e) ∙ c .if2 .taken)),
     )
 
@@ -56,7 +56,7 @@ returns-3 c =
       λ s q p k w sc e.
           let b = f .find-among-b .ensures .1 (suffix s .table) q p w sc (from-start (a .text .now) (a .limit) ∙ e) in
           too-short s w (a .limit) (f .find-among-b .result) b (g .before .if1 .left) (length w) (g .least-letters .result) refl
-          (g .least-letters .ensures ∙ ap (λ (x : List ℕ). guard x (f .find-among-b .result .class)) k)
+          (g .least-letters .ensures ∙ ap (λ (x : List ℕ). leastLetters x (f .find-among-b .result .class)) k)
           (leb-false (g .least-letters .result) (length w) (sym (h .has-chars .ensures .0 w e) ∙ c .if2 .left)),
     )
 

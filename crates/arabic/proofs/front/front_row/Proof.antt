@@ -5,7 +5,7 @@ use Prim.Native.Nat.{ℕ}
 use lib.ListN.{length}
 use borrow.Author.Tests.{leb-true, leb-false}
 use borrow.Author.Needs.{needs}
-use Rattle.definition.specs.Search.{guard}
+use Rattle.definition.specs.Search.{leastLetters}
 use Rattle.definition.specs.Fronts.{prefix}
 use Rattle.arabic.proofs.Fronted.{no-row, too-short, long-enough}
 use Rattle.arabic.proofs.front.front_row.Statement.{statement}
@@ -36,7 +36,7 @@ returns-2 c =
     λ s q p k t rest sc e b.
     long-enough s t rest (a .cursor) (f .find-among .result) (f .find-among .ensures .1 (prefix s .table) q p rest sc b) (g .before .if1 .left)
     (length t) (g .least-letters .result) refl
-    (g .least-letters .ensures ∙ ap (λ (x : List ℕ). guard x (f .find-among .result .class)) k)
+    (g .least-letters .ensures ∙ ap (λ (x : List ℕ). leastLetters x (f .find-among .result .class)) k)
     (leb-true (g .least-letters .result) (length t) (sym (h .has-chars .ensures .0 t e) ∙ c .if2 .taken))
 
 returns-3 : tie.Need-returns-3
@@ -48,7 +48,7 @@ returns-3 c =
     λ s q p k t rest sc e b.
     too-short s t rest (a .cursor) (f .find-among .result) (f .find-among .ensures .1 (prefix s .table) q p rest sc b) (g .before .if1 .left)
     (length t) (g .least-letters .result) refl
-    (g .least-letters .ensures ∙ ap (λ (x : List ℕ). guard x (f .find-among .result .class)) k)
+    (g .least-letters .ensures ∙ ap (λ (x : List ℕ). leastLetters x (f .find-among .result .class)) k)
     (leb-false (g .least-letters .result) (length t) (sym (h .has-chars .ensures .0 t e) ∙ c .if2 .left))
 
 pub front-row-spec : {M : Type 1} → statement M

@@ -2,7 +2,7 @@
 use mathlib.Core.Path.{sym, subst}
 use mathlib.Core.Bool.{Bool}
 use Rattle.definition.specs.Words.{Word}
-use Rattle.definition.specs.Tries.{Try, after, orElse}
+use Rattle.definition.specs.Tries.{Try, after, ifFailed}
 use Rattle.definition.specs.Kind.{Kind, OPEN, ifOpen}
 use Rattle.definition.specs.Fronts.{Fronting, prefixStep1, prefixStep2, prefixStep3aNoun, prefixStep3bNoun, apply, prefixSteps, started}
 use Rattle.arabic.specs.declared.endings.Tried.{Tried}
@@ -19,7 +19,7 @@ abbrev first : Word → Try Fronting
 first w = apply prefixStep3aNoun (after (apply prefixStep2 (after (apply prefixStep1 (started w)))))
 
 abbrev two : Word → Try Fronting
-two w = orElse (first w) (apply prefixStep3bNoun)
+two w = ifFailed (first w) (apply prefixStep3bNoun)
 
 a : (c : tie.After-r-Prefix-Step2) (w : Word) → Fronts (c .before .before .before .args .env) (started w) → GivesFront (c .r-Prefix-Step2 .result) (apply prefixStep2 (after (apply prefixStep1 (started w))))
 a c w st = c .r-Prefix-Step2 .ensures _ (c .before .before .r-Prefix-Step1 .ensures w st .env)
@@ -33,7 +33,7 @@ d c w st =
     or-no (f .r-Prefix-Step3a-Noun .result) (c .r-Prefix-Step3b-Noun .result) (apply prefixStep3bNoun) (c .before .before .if1 .left) (c .r-Prefix-Step3b-Noun .ensures) (first w) (b f w st)
 
 -- an answer of all alternatives
-all : (r : Tried) (k : Kind) (w : Word) → GivesFront r (orElse (two w) (ifOpen k verbSteps)) → GivesFront r (prefixSteps k (started w))
+all : (r : Tried) (k : Kind) (w : Word) → GivesFront r (ifFailed (two w) (ifOpen k verbSteps)) → GivesFront r (prefixSteps k (started w))
 all r k w g = subst (GivesFront r) (prefix-steps-is k (started w)) g
 
 r-Prefix-Step1-requires : tie.Need-r-Prefix-Step1-requires

@@ -3,7 +3,7 @@ use mathlib.Core.Path.{refl, sym, subst}
 use mathlib.Core.Bool.{true}
 use Prim.Native.Nat.{_≤_}
 use lib.ListN.{length}
-use Rattle.definition.specs.Tries.{andThen, orElse, again}
+use Rattle.definition.specs.Tries.{andThen, ifFailed, again}
 use Rattle.definition.specs.Endings.{Cutting, cut, verbStep1, verbStep2a, verbStep2b}
 use Rattle.arabic.specs.Endings.{Ends, Ready, Gives}
 use Rattle.arabic.specs.Nests.{afterStep1}
@@ -35,7 +35,7 @@ failed1 c v st =
 
 -- and Step2b behind it
 second : (c : tie.After-r-Suffix-Verb-Step2b) (v : Cutting) → Ends (c .before .before .before .before .args .env) v
-    → Gives (c .r-Suffix-Verb-Step2b .result) (orElse (andThen (andThen (cut verbStep1 v) (again (length (v .text)) (cut verbStep1))) afterStep1) (cut verbStep2b))
+    → Gives (c .r-Suffix-Verb-Step2b .result) (ifFailed (andThen (andThen (cut verbStep1 v) (again (length (v .text)) (cut verbStep1))) afterStep1) (cut verbStep2b))
 second c v st =
     or-no (c .before .before .before .r-Suffix-Verb-Step1 .result) (c .r-Suffix-Verb-Step2b .result) (cut verbStep2b) (c .before .if1 .left) (c .r-Suffix-Verb-Step2b .ensures)
     (andThen (andThen (cut verbStep1 v) (again (length (v .text)) (cut verbStep1))) afterStep1) (failed1 (c .before) v st)
@@ -58,7 +58,7 @@ returns c =
     let y = andThen (cut verbStep1 v) (again (length (v .text)) (cut verbStep1)) in
     let g = then-yes (record { found = true; env = c .before .repeat-Step1 .result }) (r .result) afterStep1 refl y (repeated (c .before) v st) (λ u e s. r .ensures .1 u s) in
     subst (Gives (r .result)) (verb-is v)
-    (or-yes (r .result) (cut verbStep2a) (r .ensures .0) (orElse (andThen y afterStep1) (cut verbStep2b)) (or-yes (r .result) (cut verbStep2b) (r .ensures .0) (andThen y afterStep1) g))
+    (or-yes (r .result) (cut verbStep2a) (r .ensures .0) (ifFailed (andThen y afterStep1) (cut verbStep2b)) (or-yes (r .result) (cut verbStep2b) (r .ensures .0) (andThen y afterStep1) g))
 
 r-Suffix-Verb-Step2b-requires : tie.Need-r-Suffix-Verb-Step2b-requires
 r-Suffix-Verb-Step2b-requires c κs = ready1 (c .before .before)
