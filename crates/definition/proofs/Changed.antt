@@ -17,6 +17,7 @@ use Rattle.definition.specs.Finish.{last, other, finish}
 use Rattle.definition.specs.Fronts.{Applied, prefixStep4Verb}
 use Rattle.definition.specs.Demand3.{isApplied, place, Change, last-hamza, other-alef, other-waw, other-yeh, last-yeh, fourth-alef, stays}
 use Rattle.definition.proofs.Match.{both-0, both-1, by}
+use Rattle.definition.proofs.Finish.{other-last}
 use Rattle.definition.proofs.FrontRows.{Verbal}
 use Rattle.definition.proofs.Fronting.{Fourth, fourth}
 use Rattle.definition.proofs.Lengths.{maqsura-if-length, fourth-length}
@@ -130,7 +131,7 @@ finish-at : (t : Word) (i : ℕ) → i < length t
     → ((suc i ≡ length t) × (getD (finish t) i 0 ≡ last (getD t i 0))) ⊎ ((suc i ≡ length t → ⊥) × (getD (finish t) i 0 ≡ other (getD t i 0)))
 unfolding finish
 finish-at [] i h = absurd (omega arith)
-finish-at (c ∷ []) zero h = inl (refl, refl)
+finish-at (c ∷ []) zero h = inl (refl, other-last c)
 finish-at (c ∷ []) (suc i) h = absurd (omega arith)
 finish-at (c ∷ d ∷ t) zero h = inr ((λ e. omega arith), refl)
 finish-at (c ∷ d ∷ t) (suc i) h = go (finish-at (d ∷ t) i (omega arith))

@@ -11,9 +11,9 @@ use Rattle.definition.specs.Letters.{alef}
 use Rattle.definition.specs.Words.{Word, pick, beginsWith}
 use Rattle.definition.specs.Tables.{«A_4»}
 use Rattle.definition.specs.Search.{rowAt, leastLetters, taken}
-use Rattle.definition.specs.Tries.{_thenTry_, firstOf, attempt}
+use Rattle.definition.specs.Tries.{inTurn, firstOf, attempt}
 use Rattle.definition.specs.Kind.{Kind, ifOpen}
-use Rattle.definition.specs.Fronts.{PrefixStep, prefixStep1, prefixStep2, prefixStep3aNoun, prefixStep3bNoun, prefixStep3Verb, prefixStep4Verb, prefix, notAt, Applied, at, frontRow, replacement, unreplaced, Fronting, text, passing, change, beginsWithAny, applyBy, applyUnless, apply, prefixSteps, started, fronts}
+use Rattle.definition.specs.Fronts.{PrefixStep, prefixStep1, prefixStep2, prefixStep3aNoun, prefixStep3bNoun, prefixStep3Verb, prefixStep4Verb, prefix, notAt, Applied, at, frontRow, replacement, unreplaced, Fronting, text, passing, change, beginsWithAny, applyBy, applyUnless, apply, prefixStep3VerbInTurn, prefixStep3Choices, prefixSteps, started, fronts}
 use Rattle.definition.specs.Demand3.{toFront, frontOf, AtMostOne, unused, once, HeadOf, noHead, oneHead, Third, third-a, third-b, third-verb, InOrder, isApplied, place}
 use Rattle.definition.proofs.Match.{empty, begins-split}
 use Rattle.definition.proofs.Found.{Taken, taken-some}
@@ -359,19 +359,17 @@ module _ (s : Word) where
   pub fronts-done : (k : Kind) → Fronted s (fronts k s)
   unfolding fronts prefixSteps
   fronts-done k = ends-after (Fronted s) (prefixSteps k (started s)) (
-      does-then (λ (f : Fronting). f ≡ started s) (Fronted s) (Fronted s) (Early s 2)
-      (attempt (apply prefixStep1) thenTry attempt (apply prefixStep2))
-      (firstOf (apply prefixStep3aNoun ∷ apply prefixStep3bNoun ∷ ifOpen k (attempt (apply prefixStep3Verb) thenTry apply prefixStep4Verb) ∷ []))
-      (does-then (λ (f : Fronting). f ≡ started s) (Early s 2) (Fronted s) First (attempt (apply prefixStep1)) (attempt (apply prefixStep2))
+      does-then (λ (f : Fronting). f ≡ started s) (Fronted s) (Fronted s) First (attempt (apply prefixStep1)) _
       (does-attempt (λ (f : Fronting). f ≡ started s) First (Fronted s) (apply prefixStep1)
       (λ f e. subst (λ (x : Fronting). Ends First First (apply prefixStep1 x)) (sym e) does-1))
-      (does-attempt First (Early s 2) (Fronted s) (apply prefixStep2) does-2))
+      (does-then First (Fronted s) (Fronted s) (Early s 2) (attempt (apply prefixStep2)) (firstOf (prefixStep3Choices k (inTurn prefixStep3VerbInTurn)))
+      (does-attempt First (Early s 2) (Fronted s) (apply prefixStep2) does-2)
       (does-or (Early s 2) (Fronted s) (Fronted s) (Early s 2) (apply prefixStep3aNoun) _ does-3a
       (does-or (Early s 2) (Fronted s) (Fronted s) (Early s 2) (apply prefixStep3bNoun) _ does-3b
-      (does-or (Early s 2) (Fronted s) (Fronted s) (Fronted s) (ifOpen k (attempt (apply prefixStep3Verb) thenTry apply prefixStep4Verb)) []
-      (does-if (Early s 2) (Fronted s) (Fronted s) k (attempt (apply prefixStep3Verb) thenTry apply prefixStep4Verb)
+      (does-or (Early s 2) (Fronted s) (Fronted s) (Fronted s) (ifOpen k (inTurn prefixStep3VerbInTurn)) []
+      (does-if (Early s 2) (Fronted s) (Fronted s) k (inTurn prefixStep3VerbInTurn)
       (does-then (Early s 2) (Fronted s) (Fronted s) (Late s 3) (attempt (apply prefixStep3Verb)) (apply prefixStep4Verb)
       (does-attempt (Early s 2) (Late s 3) (Fronted s) (apply prefixStep3Verb) does-3v) does-4)
       early-fronted)
-      (does-last (Fronted s) (Fronted s)))))
+      (does-last (Fronted s) (Fronted s))))))
       (started s) refl)

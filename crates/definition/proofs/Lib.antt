@@ -1,6 +1,7 @@
 pub mod Main
 pub mod Examples
 pub mod Stays
+pub mod Finish
 pub mod Rows
 pub mod Match
 pub mod Found

@@ -1,7 +1,7 @@
 -- What is shown of the definition: the main theorems of this crate, each closed by the file that proves it. Assumes nothing.
 use mathlib.Core.Path.{_≡_}
 use mathlib.Core.Bool.{true}
-use mathlib.Core.List.{[], _∷_, map}
+use mathlib.Core.List.{[], _∷_, _++_, map}
 use Prim.Native.Nat.{ℕ, _≤_, _<_}
 use lib.ListN.{length}
 use Rattle.definition.specs.Letters.{hamza, alef, waw, yeh}
@@ -17,6 +17,7 @@ use Rattle.definition.specs.Stem.{cutting, stem}
 use Rattle.definition.specs.Demand3.{Demand3}
 use Rattle.definition.specs.Examples.{computed, twelve, work, examples}
 use Rattle.definition.proofs.Examples.{examples-right}
+use Rattle.definition.proofs.Finish.{finish-all}
 use Rattle.definition.proofs.Rows.{replaced, last-rows, other-rows, maqsura-row}
 use Rattle.definition.proofs.Found.{Longest}
 use Rattle.definition.proofs.Unique.{distinct, rigid-front, rigid-end, longest-is, allTables, distinct-all}
@@ -69,6 +70,10 @@ main-step1a = no-step1a
 -- the row 0646 0627 of the verb's Step2a cuts in no word
 pub main-noon-alef : (k : Kind) (n : Word) → AllCuts NotNoonAlef (cutting k n .cuts)
 main-noon-alef = no-noon-alef
+
+-- item 5: the last letter changes as a last letter, and each before it as another
+pub main-finish : (w : Word) (c : ℕ) → finish (w ++ (c ∷ [])) ≡ map other w ++ (last c ∷ [])
+main-finish = finish-all
 
 -- the letters that items 5 and 3 name in words are the rows of A_1, A_2 and A_21
 pub main-last : (c : ℕ) → last c ≡ replaced «A_1» (hamza ∷ hamza ∷ hamza ∷ []) c

@@ -12,7 +12,7 @@ use Rattle.definition.specs.Tables.{«A_17», «A_18»}
 use Rattle.definition.specs.Search.{longer, longest, taken}
 use Rattle.definition.specs.Tries.{Try, nothing, _thenTry_, firstOf, again}
 use Rattle.definition.specs.Kind.{Kind, ifOpen}
-use Rattle.definition.specs.Endings.{SuffixStep, verbStep1, verbStep2a, verbStep2b, verbStep2c, nounStep1a, nounStep1b, nounStep2a, nounStep2b, nounStep2c1, nounStep2c2, nounStep3, suffix, Cut, Cutting, cutOff, cutBy, cut, verb, noun, endings}
+use Rattle.definition.specs.Endings.{SuffixStep, verbStep1, verbStep2a, verbStep2b, verbStep2c, nounStep1a, nounStep1b, nounStep2a, nounStep2b, nounStep2c1, nounStep2c2, nounStep3, suffix, Cut, Cutting, cutOff, cutBy, cut, afterVerbStep1, verb, noun, endings}
 use Rattle.definition.specs.Stem.{cutting}
 use Rattle.definition.proofs.Found.{taken-some}
 use Rattle.definition.proofs.Triples.{Ends, Does, Keeps, ends-after, weaker, does-then, does-or, does-last, does-again, keeps-first, keeps-if}
@@ -98,7 +98,7 @@ verb-spares : Keeps Spared verb
 unfolding verb
 verb-spares w h =
     does-or Start Spared Spared Ready _ (cut verbStep2b ∷ cut verbStep2a ∷ [])
-    (does-then Start Spared Ready Ready (cut verbStep1 thenTry again (length (w .text)) (cut verbStep1)) (firstOf (cut verbStep2a ∷ cut verbStep2c ∷ nothing ∷ []))
+    (does-then Start Spared Ready Ready (cut verbStep1 thenTry again (length (w .text)) (cut verbStep1)) (firstOf afterVerbStep1)
     (does-then Start Ready Ready (λ (v : Cutting). Spared v × (length (v .text) < length (w .text))) (cut verbStep1) (again (length (w .text)) (cut verbStep1))
     (step1-does w) (again-does (length (w .text))))
     (does-or Ready Spared Ready Ready _ _ step2a-does

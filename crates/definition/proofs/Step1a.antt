@@ -8,9 +8,9 @@ use lib.ListN.{length}
 use Rattle.definition.specs.Words.{Word, pick, every, same, endsWith}
 use Rattle.definition.specs.Tables.{Row, «A_10», «A_17», «A_18»}
 use Rattle.definition.specs.Search.{rowAt, longer, longest, leastLetters, taken}
-use Rattle.definition.specs.Tries.{Step, nothing, _thenTry_, firstOf, again}
+use Rattle.definition.specs.Tries.{Step, nothing, _thenTry_, inTurn, firstOf, again}
 use Rattle.definition.specs.Kind.{Kind, OPEN, DEFINED, ifOpen}
-use Rattle.definition.specs.Endings.{SuffixStep, verbStep1, verbStep2a, verbStep2b, verbStep2c, nounStep1a, nounStep1b, nounStep2a, nounStep2b, nounStep2c1, nounStep2c2, nounStep3, suffix, Cut, Cutting, cutOff, cutBy, cut, verb, noun, endings}
+use Rattle.definition.specs.Endings.{SuffixStep, verbStep1, verbStep2a, verbStep2b, verbStep2c, nounStep1a, nounStep1b, nounStep2a, nounStep2b, nounStep2c1, nounStep2c2, nounStep3, suffix, Cut, Cutting, cutOff, cutBy, cut, afterVerbStep1, afterNounStep1b, nounStep1bInTurn, verb, noun, endings}
 use Rattle.definition.specs.Stem.{cutting}
 use Rattle.definition.proofs.Match.{by}
 use Rattle.definition.proofs.Found.{taken-some, all-at}
@@ -84,7 +84,7 @@ Never v = ⊥
 
 -- the alternatives behind Step1a
 others : (k : Kind) → Keeps Spared (firstOf (
-    (cut nounStep1b thenTry firstOf (cut nounStep2a ∷ cut nounStep2b ∷ cut nounStep2c1 ∷ []))
+    inTurn (nounStep1bInTurn (firstOf afterNounStep1b))
     ∷ ifOpen k (cut nounStep2a)
     ∷ cut nounStep2b
     ∷ nothing
@@ -120,7 +120,7 @@ module _ (w : Cutting) (start : Spared w) where
   unfolding verb
   verb-ends =
       does-or Here Spared Untaken One _ (cut verbStep2b ∷ cut verbStep2a ∷ [])
-      (does-then Here Spared One Spared (cut verbStep1 thenTry again (length (w .text)) (cut verbStep1)) (firstOf (cut verbStep2a ∷ cut verbStep2c ∷ nothing ∷ []))
+      (does-then Here Spared One Spared (cut verbStep1 thenTry again (length (w .text)) (cut verbStep1)) (firstOf afterVerbStep1)
       (does-then Here Spared One Spared (cut verbStep1) (again (length (w .text)) (cut verbStep1)) (cut-here verbStep1 tt)
       (does-again Spared One (length (w .text)) (cut verbStep1) (cut-spares verbStep1 tt)))
       (does-or Spared Spared One Spared _ _ (cut-spares verbStep2a tt)

@@ -8,7 +8,7 @@ use Rattle.definition.specs.Letters.{alefMaksura, yeh}
 use Rattle.definition.specs.Words.{Word, pick, endsWith}
 use Rattle.definition.specs.Tables.{«A_10», «A_11», «A_12», «A_13», «A_14», «A_15», «A_16», «A_17», «A_18», «A_19», «A_20»}
 use Rattle.definition.specs.Search.{Rule, rule, rowAt, taken}
-use Rattle.definition.specs.Tries.{Step, Try, done, failed, nothing, _thenTry_, firstOf, again}
+use Rattle.definition.specs.Tries.{Step, Try, done, failed, nothing, _thenTry_, inTurn, firstOf, again}
 use Rattle.definition.specs.Kind.{Kind, ifOpen}
 
 -- r_Suffix_Verb_Step1 to r_Suffix_Verb_Step2c, r_Suffix_Noun_Step1a to r_Suffix_Noun_Step3
@@ -59,29 +59,64 @@ cutBy s v (some r) = done (cutOff v (record { step = s; row = r }))
 unfoldable pub cut : SuffixStep → Step Cutting
 cut s v = cutBy s v (taken (endsWith (v .text)) (suffix s) (length (v .text)))
 
--- Step1 as often as it cuts; after at least one cut, Step2a, else Step2c, else nothing, and the verb stands.
--- With no cut: Step2b, else Step2a, else the verb fails. Each cut takes a letter, so the number of letters bounds the cuts.
+-- Verb and noun are put together from named lists of steps, each a function of what is nested in it.
+-- Of `..Choices` and `after..` the first step that succeeds is taken, and the steps of `..InTurn` follow each other.
+
+-- ---- the verb
+
+-- after at least one cut: Step2a, else Step2c, else nothing, and the verb stands
+abbrev pub afterVerbStep1 : List (Step Cutting)
+afterVerbStep1 = cut verbStep2a ∷ cut verbStep2c ∷ nothing ∷ []
+
+-- Step1 as often as it cuts, and its sequel. Each cut takes a letter, so the number n of letters bounds the cuts.
+abbrev pub verbStep1InTurn : ℕ → Step Cutting → List (Step Cutting)
+verbStep1InTurn n sequel = (cut verbStep1 thenTry again n (cut verbStep1)) ∷ sequel ∷ []
+
+-- Step1 with its sequel; with no cut: Step2b, else Step2a, else the verb fails
+abbrev pub verbChoices : Step Cutting → List (Step Cutting)
+verbChoices step1 = step1 ∷ cut verbStep2b ∷ cut verbStep2a ∷ []
+
 unfoldable pub verb : Step Cutting
-verb v = firstOf (
-    (cut verbStep1 thenTry again (length (v .text)) (cut verbStep1) thenTry firstOf (cut verbStep2a ∷ cut verbStep2c ∷ nothing ∷ []))
-    ∷ cut verbStep2b
-    ∷ cut verbStep2a
-    ∷ []) v
+verb v = firstOf (verbChoices (inTurn (verbStep1InTurn (length (v .text)) (firstOf afterVerbStep1)))) v
 
--- First of: Step2c2; if open, Step1a and then 2a, 2b, 2c1 or nothing; Step1b and then 2a, 2b or 2c1; if open, 2a; 2b; none. Then Step3.
+-- ---- the noun
+
+-- after Step1a: 2a, 2b, 2c1 or nothing
+abbrev pub afterNounStep1a : List (Step Cutting)
+afterNounStep1a = cut nounStep2a ∷ cut nounStep2b ∷ cut nounStep2c1 ∷ nothing ∷ []
+
+abbrev pub nounStep1aInTurn : Step Cutting → List (Step Cutting)
+nounStep1aInTurn sequel = cut nounStep1a ∷ sequel ∷ []
+
+-- after Step1b: 2a, 2b or 2c1
+abbrev pub afterNounStep1b : List (Step Cutting)
+afterNounStep1b = cut nounStep2a ∷ cut nounStep2b ∷ cut nounStep2c1 ∷ []
+
+abbrev pub nounStep1bInTurn : Step Cutting → List (Step Cutting)
+nounStep1bInTurn sequel = cut nounStep1b ∷ sequel ∷ []
+
+-- first of: Step2c2; if open, Step1a with its sequel; Step1b with its sequel; if open, 2a; 2b; none
+abbrev pub nounChoices : Kind → Step Cutting → Step Cutting → List (Step Cutting)
+nounChoices k step1a step1b = cut nounStep2c2 ∷ ifOpen k step1a ∷ step1b ∷ ifOpen k (cut nounStep2a) ∷ cut nounStep2b ∷ nothing ∷ []
+
+-- then Step3
+abbrev pub nounInTurn : Step Cutting → List (Step Cutting)
+nounInTurn choice = choice ∷ cut nounStep3 ∷ []
+
 unfoldable pub noun : Kind → Step Cutting
-noun k = firstOf (
-    cut nounStep2c2
-    ∷ ifOpen k (cut nounStep1a thenTry firstOf (cut nounStep2a ∷ cut nounStep2b ∷ cut nounStep2c1 ∷ nothing ∷ []))
-    ∷ (cut nounStep1b thenTry firstOf (cut nounStep2a ∷ cut nounStep2b ∷ cut nounStep2c1 ∷ []))
-    ∷ ifOpen k (cut nounStep2a)
-    ∷ cut nounStep2b
-    ∷ nothing
-    ∷ []) thenTry cut nounStep3
+noun k = inTurn (nounInTurn (firstOf (nounChoices k
+    (inTurn (nounStep1aInTurn (firstOf afterNounStep1a)))
+    (inTurn (nounStep1bInTurn (firstOf afterNounStep1b))))))
 
--- An open word first tries the verb; the noun follows where the verb was not tried or failed. It fails where the noun's Step3 fails.
+-- ---- verb and noun
+
+-- an open word first tries the verb; the noun follows where the verb was not tried or failed
+abbrev pub endingChoices : Kind → Step Cutting → Step Cutting → List (Step Cutting)
+endingChoices k verb noun = ifOpen k verb ∷ noun ∷ []
+
+-- it fails where the noun's Step3 fails
 unfoldable pub endings : Kind → Word → Try Cutting
-endings k n = firstOf (ifOpen k verb ∷ noun k ∷ []) (record { text = n; cuts = [] })
+endings k n = firstOf (endingChoices k verb (noun k)) (record { text = n; cuts = [] })
 
 -- r_Suffix_All_alef_maqsura: a last 0649 becomes 064A
 unfoldable pub suffixAllAlefMaqsura : Word → Word

@@ -1,6 +1,6 @@
 -- Item 5: the last letter, and the other letters.
 use Prim.Native.Nat.{ℕ}
-use mathlib.Core.List.{[], _∷_}
+use mathlib.Core.List.{[], _∷_, map}
 use lib.Dec.{eqb, leb}
 use Rattle.definition.specs.Letters.{hamza, alefMadda, alefHamzaAbove, wawHamza, alefHamzaBelow, yehHamza, alef, waw, yeh}
 use Rattle.definition.specs.Words.{Word, pick, both}
@@ -18,7 +18,15 @@ other c =
     (pick (eqb c alefHamzaBelow) alef
     (pick (eqb c yehHamza) yeh c))))
 
+-- the first half: the last letter
+abbrev pub lastLetter : Word → Word
+lastLetter [] = []
+lastLetter (c ∷ []) = last c ∷ []
+lastLetter (c ∷ d ∷ w) = c ∷ lastLetter (d ∷ w)
+
+-- the second half: all letters; the first has left none at the end that would change here
+abbrev pub allLetters : Word → Word
+allLetters w = map other w
+
 unfoldable pub finish : Word → Word
-finish [] = []
-finish (c ∷ []) = last c ∷ []
-finish (c ∷ d ∷ w) = other c ∷ finish (d ∷ w)
+finish w = allLetters (lastLetter w)

@@ -8,7 +8,7 @@ use Rattle.definition.specs.Letters.{alefMadda, alefHamzaAbove, alefHamz
 use Rattle.definition.specs.Words.{Word, pick, beginsWith}
 use Rattle.definition.specs.Tables.{«A_4», «A_5», «A_6», «A_7», «A_8», «A_9»}
 use Rattle.definition.specs.Search.{Rule, rule, rowAt, taken}
-use Rattle.definition.specs.Tries.{Step, Try, done, failed, after, _thenTry_, firstOf, attempt}
+use Rattle.definition.specs.Tries.{Step, Try, done, failed, after, inTurn, firstOf, attempt}
 use Rattle.definition.specs.Kind.{Kind, ifOpen}
 
 -- r_Prefix_Step1 to r_Prefix_Step4_Verb
@@ -116,13 +116,22 @@ applyUnless false s f = applyBy s f (taken (beginsWith (f .rest)) (prefix s) (le
 unfoldable pub apply : PrefixStep → Step Fronting
 apply s f = applyUnless (beginsWithAny (f .rest) (notAt s)) s f
 
--- Step1, Step2, then the first of Step3a_Noun, Step3b_Noun, and, for open words, Step3_Verb followed by Step4_Verb
+-- ---- the steps in their order, as lists: of `..Choices` the first that succeeds is taken, those of `..InTurn` follow each other
+
+-- Step3_Verb followed by Step4_Verb
+abbrev pub prefixStep3VerbInTurn : List (Step Fronting)
+prefixStep3VerbInTurn = attempt (apply prefixStep3Verb) ∷ apply prefixStep4Verb ∷ []
+
+-- the first of Step3a_Noun, Step3b_Noun, and, for open words, the verb's steps
+abbrev pub prefixStep3Choices : Kind → Step Fronting → List (Step Fronting)
+prefixStep3Choices k verbSteps = apply prefixStep3aNoun ∷ apply prefixStep3bNoun ∷ ifOpen k verbSteps ∷ []
+
+-- Step1, Step2, then Step3
+abbrev pub prefixesInTurn : Step Fronting → List (Step Fronting)
+prefixesInTurn step3 = attempt (apply prefixStep1) ∷ attempt (apply prefixStep2) ∷ step3 ∷ []
+
 unfoldable pub prefixSteps : Kind → Step Fronting
-prefixSteps k = attempt (apply prefixStep1) thenTry attempt (apply prefixStep2) thenTry firstOf (
-    apply prefixStep3aNoun
-    ∷ apply prefixStep3bNoun
-    ∷ ifOpen k (attempt (apply prefixStep3Verb) thenTry apply prefixStep4Verb)
-    ∷ [])
+prefixSteps k = inTurn (prefixesInTurn (firstOf (prefixStep3Choices k (inTurn prefixStep3VerbInTurn))))
 
 unfoldable pub started : Word → Fronting
 started w = record { front = []; headLetter = []; passed = []; rest = w; applied = [] }

@@ -43,6 +43,12 @@ module _ {A : Type 0} where
   unfoldable pub _thenTry_ : Step A → Step A → Step A
   _thenTry_ f g a = andThen (f a) g
 
+  -- steps that follow each other, as long as they succeed
+  abbrev pub inTurn : List (Step A) → Step A
+  inTurn [] = nothing
+  inTurn (f ∷ []) = f
+  inTurn (f ∷ g ∷ fs) = f thenTry inTurn (g ∷ fs)
+
   -- Snowball's `or`: the first that succeeds
   unfoldable pub firstOf : List (Step A) → Step A
   firstOf [] a = failed a

@@ -12,11 +12,11 @@ use Rattle.definition.specs.Letters.{alef, beh, kaf, lam, alefMaksura}
 use Rattle.definition.specs.Words.{Word, every, same, beginsWith}
 use Rattle.definition.specs.Tables.{Row, «A_0», «A_3», «A_4», «A_5», «A_7»}
 use Rattle.definition.specs.Search.{rule, rowAt, longer, longest, taken}
-use Rattle.definition.specs.Tries.{Step, Try, done, failed, after, _thenTry_, firstOf, attempt}
+use Rattle.definition.specs.Tries.{Step, Try, done, failed, after, _thenTry_, inTurn, firstOf, attempt}
 use Rattle.definition.specs.Kind.{Kind, OPEN, DEFINED, kindBy, ifOpen, kind}
 use Rattle.definition.specs.Normal.{gives, listedFor, given, normal, normalise}
 use Rattle.definition.specs.Endings.{Cutting, endings, suffixAllAlefMaqsura, maqsuraIfFailed}
-use Rattle.definition.specs.Fronts.{PrefixStep, prefixStep1, prefixStep2, prefixStep3aNoun, prefixStep3bNoun, prefixStep3Verb, prefixStep4Verb, prefix, notAt, Applied, at, Fronting, change, beginsWithAny, apply, prefixSteps, started, fronts}
+use Rattle.definition.specs.Fronts.{PrefixStep, prefixStep1, prefixStep2, prefixStep3aNoun, prefixStep3bNoun, prefixStep3Verb, prefixStep4Verb, prefix, notAt, Applied, at, Fronting, change, beginsWithAny, apply, prefixStep3VerbInTurn, prefixSteps, started, fronts}
 use Rattle.definition.specs.Stem.{cutting, fronting, applied}
 use Rattle.definition.proofs.Match.{clash, either, either-not, begins-split, begins-of}
 use Rattle.definition.proofs.Found.{taken-some, all-at}
@@ -142,7 +142,7 @@ AllApplied P [] = Unit {0}
 AllApplied P (m ∷ ms) = P (m .step) × AllApplied P ms
 
 abbrev verbs : Step Fronting
-verbs = ifOpen DEFINED (attempt (apply prefixStep3Verb) thenTry apply prefixStep4Verb)
+verbs = ifOpen DEFINED (inTurn prefixStep3VerbInTurn)
 
 opened-fronts : (t : Word) → Opened t → AllApplied Article (fronts DEFINED t .applied)
 unfolding fronts prefixSteps _thenTry_ attempt started firstOf change

@@ -8,12 +8,12 @@ use lib.ListN.{length}
 use Rattle.definition.specs.Words.{Word, every, same, endsWith}
 use Rattle.definition.specs.Tables.{«A_10», «A_11», «A_12», «A_13», «A_15», «A_17», «A_18», «A_19», «A_20»}
 use Rattle.definition.specs.Search.{longer, longest}
-use Rattle.definition.specs.Tries.{Step, Try, done, failed, nothing, andThen, ifFailed, _thenTry_, firstOf, again}
+use Rattle.definition.specs.Tries.{Step, Try, done, failed, nothing, andThen, ifFailed, _thenTry_, inTurn, firstOf}
 use Rattle.definition.specs.Kind.{Kind, OPEN, DEFINED, ifOpen}
-use Rattle.definition.specs.Endings.{SuffixStep, verbStep1, verbStep2a, verbStep2b, verbStep2c, nounStep1a, nounStep1b, nounStep2a, nounStep2b, nounStep2c1, nounStep2c2, nounStep3, suffix, Cutting, cut, verb}
+use Rattle.definition.specs.Endings.{SuffixStep, verbStep1, verbStep2a, verbStep2b, verbStep2c, nounStep1a, nounStep1b, nounStep2a, nounStep2b, nounStep2c1, nounStep2c2, nounStep3, suffix, Cutting, cut, afterVerbStep1, verbStep1InTurn, verbChoices, verb, afterNounStep1a, nounStep1aInTurn, afterNounStep1b, nounStep1bInTurn, nounChoices, nounInTurn}
 use Rattle.definition.proofs.Triples.{Ends}
 use Rattle.definition.proofs.Step1a.{coveredRow, covered-1a, idle-by, Spared, Untaken, verb-ends}
-use Rattle.order.specs.Order.{Pair, pair, verbs, verbSequel, nouns, step1aSequel, step1bSequel, unexchanged, exchanged, ordered, inTurn, verbBy, nounBy, maqsura, endingsBy}
+use Rattle.order.specs.Order.{Pair, pair, verbs, verbSequel, nouns, step1aSequel, step1bSequel, unexchanged, exchanged, ordered, verbBy, nounBy, maqsura, allEndings, endingsBy}
 use Rattle.order.proofs.Exchange.{Succeeds, Fails, Clean, first-fails, first-succeeds, one-fails, exchange, last-succeeds, or-succeeds, again-succeeds, then-fails, then-clean, open-clean, open-fails}
 use Rattle.order.proofs.Apart.{apart, cut-idle, cut-clean, one-idle}
 
@@ -41,7 +41,7 @@ cuts-exchange s t c fs = λ i v. exchange (cut s) (cut t) fs v (cut-clean s v) (
 
 -- ---- the verb
 abbrev verb-turns : (v : Cutting) → Step Cutting
-verb-turns v = (cut verbStep1 thenTry again (length (v .text)) (cut verbStep1)) thenTry firstOf (cut verbStep2a ∷ cut verbStep2c ∷ nothing ∷ [])
+verb-turns v = inTurn (verbStep1InTurn (length (v .text)) (firstOf afterVerbStep1))
 
 turns-clean : (v : Cutting) → Clean (verb-turns v) v
 turns-clean v =
@@ -50,8 +50,8 @@ turns-clean v =
 
 -- Step1 | Step2b
 pub verbs-0 : (k : Kind) (n : Word) → endingsBy (pair verbs 0) k n ≡ endingsBy unexchanged k n
-unfolding endingsBy verbBy nounBy ordered exchanged inTurn
-verbs-0 k n = λ i. firstOf (ifOpen k (λ (v : Cutting). go v (one-idle verbStep1 verbStep2b apart-1-2b v) i) ∷ nounBy unexchanged k ∷ maqsura ∷ []) (record { text = n; cuts = [] })
+unfolding endingsBy verbBy nounBy ordered exchanged
+verbs-0 k n = λ i. firstOf (allEndings k (λ (v : Cutting). go v (one-idle verbStep1 verbStep2b apart-1-2b v) i) (nounBy unexchanged k)) (record { text = n; cuts = [] })
   where
     go : (v : Cutting) → Fails (cut verbStep1) v ⊎ Fails (cut verbStep2b) v → verbBy (pair verbs 0) v ≡ verbBy unexchanged v
     go v (inl p) = exchange (verb-turns v) (cut verbStep2b) _ v (turns-clean v) (cut-clean verbStep2b v) (inl (then-fails _ _ v (then-fails (cut verbStep1) _ v p)))
@@ -59,43 +59,46 @@ verbs-0 k n = λ i. firstOf (ifOpen k (λ (v : Cutting). go v (one-idle verbStep
 
 -- behind Step1: Step2a | Step2c
 pub verbSequel-0 : (k : Kind) (n : Word) → endingsBy (pair verbSequel 0) k n ≡ endingsBy unexchanged k n
-unfolding endingsBy verbBy nounBy ordered exchanged inTurn
-verbSequel-0 k n = λ i. firstOf (ifOpen k (go i) ∷ nounBy unexchanged k ∷ maqsura ∷ []) (record { text = n; cuts = [] })
+unfolding endingsBy verbBy nounBy ordered exchanged
+verbSequel-0 k n = λ i. firstOf (allEndings k (go i) (nounBy unexchanged k)) (record { text = n; cuts = [] })
   where
     go : verbBy (pair verbSequel 0) ≡ verbBy unexchanged
-    go = λ i v. firstOf (
-        ((cut verbStep1 thenTry again (length (v .text)) (cut verbStep1)) thenTry cuts-exchange verbStep2a verbStep2c apart-2a-2c (nothing ∷ []) i)
-        ∷ cut verbStep2b ∷ cut verbStep2a ∷ []) v
+    go = λ i v. firstOf (verbChoices (inTurn (verbStep1InTurn (length (v .text)) (cuts-exchange verbStep2a verbStep2c apart-2a-2c (nothing ∷ []) i)))) v
 
 -- ---- the noun
 abbrev sequel : Step Cutting
-sequel = firstOf (cut nounStep2a ∷ cut nounStep2b ∷ cut nounStep2c1 ∷ nothing ∷ [])
+sequel = firstOf afterNounStep1a
+
+abbrev step1a : Step Cutting → Step Cutting
+step1a g = inTurn (nounStep1aInTurn g)
+
+abbrev step1b : Step Cutting
+step1b = inTurn (nounStep1bInTurn (firstOf afterNounStep1b))
 
 sequel-succeeds : (v : Cutting) → Succeeds sequel v
 sequel-succeeds = or-succeeds (cut nounStep2a) _ (or-succeeds (cut nounStep2b) _ (or-succeeds (cut nounStep2c1) _ last-succeeds))
 
 -- Step2c2 | Step1a
 pub nouns-0 : (k : Kind) (n : Word) → endingsBy (pair nouns 0) k n ≡ endingsBy unexchanged k n
-unfolding endingsBy verbBy nounBy ordered exchanged inTurn
-nouns-0 k n = λ i. firstOf (ifOpen k (verbBy unexchanged) ∷ ((λ (v : Cutting). go v (one-idle nounStep2c2 nounStep1a apart-2c2-1a v) i) thenTry cut nounStep3) ∷ maqsura ∷ []) (record { text = n; cuts = [] })
+unfolding endingsBy verbBy nounBy ordered exchanged
+nouns-0 k n = λ i. firstOf (allEndings k (verbBy unexchanged) (inTurn (nounInTurn (λ (v : Cutting). go v (one-idle nounStep2c2 nounStep1a apart-2c2-1a v) i)))) (record { text = n; cuts = [] })
   where
     others : List (Step Cutting)
-    others =
-        (cut nounStep1b thenTry firstOf (cut nounStep2a ∷ cut nounStep2b ∷ cut nounStep2c1 ∷ [])) ∷ ifOpen k (cut nounStep2a) ∷ cut nounStep2b ∷ nothing ∷ []
+    others = step1b ∷ ifOpen k (cut nounStep2a) ∷ cut nounStep2b ∷ nothing ∷ []
 
     go : (v : Cutting) → Fails (cut nounStep2c2) v ⊎ Fails (cut nounStep1a) v
-        → firstOf (ifOpen k (cut nounStep1a thenTry sequel) ∷ cut nounStep2c2 ∷ others) v ≡ firstOf (cut nounStep2c2 ∷ ifOpen k (cut nounStep1a thenTry sequel) ∷ others) v
-    go v p = exchange (cut nounStep2c2) (ifOpen k (cut nounStep1a thenTry sequel)) others v (cut-clean nounStep2c2 v)
+        → firstOf (ifOpen k (step1a sequel) ∷ cut nounStep2c2 ∷ others) v ≡ firstOf (cut nounStep2c2 ∷ ifOpen k (step1a sequel) ∷ others) v
+    go v p = exchange (cut nounStep2c2) (ifOpen k (step1a sequel)) others v (cut-clean nounStep2c2 v)
         (open-clean k _ v (then-clean (cut nounStep1a) sequel v (cut-clean nounStep1a v) sequel-succeeds)) (so p)
       where
-        so : Fails (cut nounStep2c2) v ⊎ Fails (cut nounStep1a) v → Fails (cut nounStep2c2) v ⊎ Fails (ifOpen k (cut nounStep1a thenTry sequel)) v
+        so : Fails (cut nounStep2c2) v ⊎ Fails (cut nounStep1a) v → Fails (cut nounStep2c2) v ⊎ Fails (ifOpen k (step1a sequel)) v
         so (inl q) = inl q
         so (inr q) = inr (open-fails k _ v (then-fails (cut nounStep1a) sequel v q))
 
 -- Step2a | Step2b
 pub nouns-3 : (k : Kind) (n : Word) → endingsBy (pair nouns 3) k n ≡ endingsBy unexchanged k n
-unfolding endingsBy verbBy nounBy ordered exchanged inTurn firstOf
-nouns-3 k n = λ i. firstOf (ifOpen k (verbBy unexchanged) ∷ (whole i thenTry cut nounStep3) ∷ maqsura ∷ []) (record { text = n; cuts = [] })
+unfolding endingsBy verbBy nounBy ordered exchanged firstOf
+nouns-3 k n = λ i. firstOf (allEndings k (verbBy unexchanged) (inTurn (nounInTurn (whole i)))) (record { text = n; cuts = [] })
   where
     go : (j : Kind) (v : Cutting) → Fails (cut nounStep2a) v ⊎ Fails (cut nounStep2b) v
         → firstOf (cut nounStep2b ∷ ifOpen j (cut nounStep2a) ∷ nothing ∷ []) v ≡ firstOf (ifOpen j (cut nounStep2a) ∷ cut nounStep2b ∷ nothing ∷ []) v
@@ -103,26 +106,20 @@ nouns-3 k n = λ i. firstOf (ifOpen k (verbBy unexchanged) ∷ (whole i thenTry 
     go j v (inr p) = one-fails (cut nounStep2b) (ifOpen j (cut nounStep2a)) (nothing ∷ []) v p (open-clean j _ v (cut-clean nounStep2a v))
 
     whole : firstOf (
-        cut nounStep2c2 ∷ ifOpen k (cut nounStep1a thenTry sequel) ∷ (cut nounStep1b thenTry firstOf (cut nounStep2a ∷ cut nounStep2b ∷ cut nounStep2c1 ∷ []))
+        cut nounStep2c2 ∷ ifOpen k (step1a sequel) ∷ step1b
         ∷ cut nounStep2b ∷ ifOpen k (cut nounStep2a) ∷ nothing ∷ [])
         ≡ firstOf (
-        cut nounStep2c2 ∷ ifOpen k (cut nounStep1a thenTry sequel) ∷ (cut nounStep1b thenTry firstOf (cut nounStep2a ∷ cut nounStep2b ∷ cut nounStep2c1 ∷ []))
+        cut nounStep2c2 ∷ ifOpen k (step1a sequel) ∷ step1b
         ∷ ifOpen k (cut nounStep2a) ∷ cut nounStep2b ∷ nothing ∷ [])
-    whole = λ i v. ifFailed (cut nounStep2c2 v) (λ (a : Cutting). ifFailed (ifOpen k (cut nounStep1a thenTry sequel) a)
-        (λ (b : Cutting). ifFailed ((cut nounStep1b thenTry firstOf (cut nounStep2a ∷ cut nounStep2b ∷ cut nounStep2c1 ∷ [])) b)
+    whole = λ i v. ifFailed (cut nounStep2c2 v) (λ (a : Cutting). ifFailed (ifOpen k (step1a sequel) a)
+        (λ (b : Cutting). ifFailed (step1b b)
         (λ (c : Cutting). go k c (one-idle nounStep2a nounStep2b apart-2a-2b c) i)))
 
 -- behind Step1b: Step2a | Step2b
 pub step1bSequel-0 : (k : Kind) (n : Word) → endingsBy (pair step1bSequel 0) k n ≡ endingsBy unexchanged k n
-unfolding endingsBy verbBy nounBy ordered exchanged inTurn
-step1bSequel-0 k n = λ i. firstOf (ifOpen k (verbBy unexchanged) ∷ (firstOf (
-    cut nounStep2c2
-    ∷ ifOpen k (cut nounStep1a thenTry sequel)
-    ∷ (cut nounStep1b thenTry cuts-exchange nounStep2a nounStep2b apart-2a-2b (cut nounStep2c1 ∷ []) i)
-    ∷ ifOpen k (cut nounStep2a)
-    ∷ cut nounStep2b
-    ∷ nothing
-    ∷ []) thenTry cut nounStep3) ∷ maqsura ∷ []) (record { text = n; cuts = [] })
+unfolding endingsBy verbBy nounBy ordered exchanged
+step1bSequel-0 k n = λ i. firstOf (allEndings k (verbBy unexchanged) (inTurn (nounInTurn (firstOf (nounChoices k (step1a sequel)
+    (inTurn (nounStep1bInTurn (cuts-exchange nounStep2a nounStep2b apart-2a-2b (cut nounStep2c1 ∷ []) i)))))))) (record { text = n; cuts = [] })
 
 -- ---- where the verb has failed, neither Step1a nor Step1b takes a row
 covered-1b : every (coveredRow nounStep1b) (suffix nounStep1b .table) ≡ true
@@ -134,8 +131,8 @@ module _ (x : Pair) where
   at-noun : verbBy x ≡ verb
       → ((v : Cutting) → nounBy x DEFINED v ≡ nounBy unexchanged DEFINED v)
       → ((v : Cutting) → Fails (cut nounStep1a) v → Fails (cut nounStep1b) v → nounBy x OPEN v ≡ nounBy unexchanged OPEN v)
-      → (k : Kind) (n : Word) → firstOf (ifOpen k (verbBy x) ∷ nounBy x k ∷ maqsura ∷ []) (record { text = n; cuts = [] })
-      ≡ firstOf (ifOpen k verb ∷ nounBy unexchanged k ∷ maqsura ∷ []) (record { text = n; cuts = [] })
+      → (k : Kind) (n : Word) → firstOf (allEndings k (verbBy x) (nounBy x k)) (record { text = n; cuts = [] })
+      ≡ firstOf (allEndings k verb (nounBy unexchanged k)) (record { text = n; cuts = [] })
   unfolding firstOf
   at-noun e d o DEFINED n = ap (λ (t : Try Cutting). ifFailed t (firstOf (maqsura ∷ []))) (d (record { text = n; cuts = [] }))
   at-noun e d o OPEN n = (λ i. ifFailed (e i w) (firstOf (nounBy x OPEN ∷ maqsura ∷ []))) ∙ go (verb w) (verb-ends w tt)
@@ -160,24 +157,18 @@ behind-2c2 v fs gs e = ap (λ (t : Try Cutting). andThen t (cut nounStep3)) (go 
     go (inl s) = first-succeeds (cut nounStep2c2) fs v s ∙ sym (first-succeeds (cut nounStep2c2) gs v s)
     go (inr p) = first-fails (cut nounStep2c2) fs v p ∙ e ∙ sym (first-fails (cut nounStep2c2) gs v p)
 
-abbrev step1a : Step Cutting → Step Cutting
-step1a g = cut nounStep1a thenTry g
-
-abbrev step1b : Step Cutting
-step1b = cut nounStep1b thenTry firstOf (cut nounStep2a ∷ cut nounStep2b ∷ cut nounStep2c1 ∷ [])
-
 abbrev rest : List (Step Cutting)
 rest = cut nounStep2a ∷ cut nounStep2b ∷ nothing ∷ []
 
 -- Step1a | Step1b
 pub nouns-1 : (k : Kind) (n : Word) → endingsBy (pair nouns 1) k n ≡ endingsBy unexchanged k n
-unfolding endingsBy verbBy verb nounBy ordered exchanged inTurn firstOf
+unfolding endingsBy verbBy verb nounBy ordered exchanged firstOf
 nouns-1 = at-noun (pair nouns 1) refl (λ v. refl) (λ v p q. behind-2c2 v (step1b ∷ step1a sequel ∷ rest) (step1a sequel ∷ step1b ∷ rest)
     (one-fails step1b (step1a sequel) rest v (then-fails (cut nounStep1b) _ v q) (inr (then-fails (cut nounStep1a) sequel v p))))
 
 -- Step1b | Step2a
 pub nouns-2 : (k : Kind) (n : Word) → endingsBy (pair nouns 2) k n ≡ endingsBy unexchanged k n
-unfolding endingsBy verbBy verb nounBy ordered exchanged inTurn firstOf
+unfolding endingsBy verbBy verb nounBy ordered exchanged firstOf
 nouns-2 = at-noun (pair nouns 2) refl (λ v. refl) (λ v p q. behind-2c2 v
     (step1a sequel ∷ cut nounStep2a ∷ step1b ∷ cut nounStep2b ∷ nothing ∷ []) (step1a sequel ∷ step1b ∷ rest)
     (first-fails (step1a sequel) (cut nounStep2a ∷ step1b ∷ cut nounStep2b ∷ nothing ∷ []) v (then-fails (cut nounStep1a) sequel v p)
@@ -192,5 +183,5 @@ any-sequel v g p = behind-2c2 v (step1a g ∷ step1b ∷ rest) (step1a sequel �
     ∙ sym (first-fails (step1a sequel) (step1b ∷ rest) v (then-fails (cut nounStep1a) sequel v p)))
 
 pub step1aSequel-any : (j : ℕ) (k : Kind) (n : Word) → endingsBy (pair step1aSequel j) k n ≡ endingsBy unexchanged k n
-unfolding endingsBy verbBy verb nounBy ordered inTurn firstOf
+unfolding endingsBy verbBy verb nounBy ordered firstOf
 step1aSequel-any j = at-noun (pair step1aSequel j) refl (λ v. refl) (λ v p q. any-sequel v _ p)

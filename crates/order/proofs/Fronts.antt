@@ -13,12 +13,12 @@ use borrow.Author.Tests.{leb-true, leb-false, not-true}
 use Rattle.definition.specs.Words.{Word, every, same, beginsWith}
 use Rattle.definition.specs.Tables.{Row, «A_6», «A_7», «A_8», «A_9»}
 use Rattle.definition.specs.Search.{rowAt, taken}
-use Rattle.definition.specs.Tries.{Step, Try, done, failed, after, ifFailed, _thenTry_, firstOf, attempt}
+use Rattle.definition.specs.Tries.{Step, Try, done, failed, after, ifFailed, _thenTry_, inTurn, firstOf, attempt}
 use Rattle.definition.specs.Kind.{Kind, OPEN, DEFINED, ifOpen}
-use Rattle.definition.specs.Fronts.{PrefixStep, prefixStep1, prefixStep2, prefixStep3aNoun, prefixStep3bNoun, prefixStep3Verb, prefixStep4Verb, prefix, replacements, notAt, at, frontRow, replacement, Fronting, text, change, beginsWithAny, applyBy, applyUnless, apply, started}
+use Rattle.definition.specs.Fronts.{PrefixStep, prefixStep1, prefixStep2, prefixStep3aNoun, prefixStep3bNoun, prefixStep3Verb, prefixStep4Verb, prefix, replacements, notAt, at, frontRow, replacement, Fronting, text, change, beginsWithAny, applyBy, applyUnless, apply, prefixStep3VerbInTurn, started}
 use Rattle.definition.proofs.Match.{either, either-right, either-not, by, clash, same-eq, same-refl, begins-split, begins-of}
 use Rattle.definition.proofs.Found.{Taken, taken-some, all-at}
-use Rattle.order.specs.Order.{pair, thirds, unexchanged, exchanged, ordered, inTurn, back, backIfFailed, fromHere, prefixStepsBy}
+use Rattle.order.specs.Order.{pair, thirds, unexchanged, exchanged, ordered, back, backIfFailed, fromHere, prefixStepsBy}
 use Rattle.order.proofs.Exchange.{Succeeds, Fails, Clean, first-fails, first-succeeds, one-fails}
 
 -- ---- two keys in front of one word
@@ -167,11 +167,11 @@ bare n =
     (stays-bare prefixStep1 (λ f r e. e) (started n) refl)
 
 abbrev pub verb-fronts : Kind → Step Fronting
-verb-fronts k = ifOpen k (attempt (apply prefixStep3Verb) thenTry apply prefixStep4Verb)
+verb-fronts k = ifOpen k (inTurn prefixStep3VerbInTurn)
 
 -- Step3a_Noun | Step3b_Noun
 pub thirds-0 : (k : Kind) (n : Word) → prefixStepsBy (pair thirds 0) k (started n) ≡ prefixStepsBy unexchanged k (started n)
-unfolding prefixStepsBy ordered exchanged inTurn _thenTry_ attempt third-from
+unfolding prefixStepsBy ordered exchanged _thenTry_ attempt third-from
 thirds-0 k n = go (one-noun (third-from n))
   where
     go : Fails (apply prefixStep3aNoun) (third-from n) ⊎ Fails (apply prefixStep3bNoun) (third-from n)
@@ -263,5 +263,5 @@ module _ (n : Word) where
           ap (λ (x : Try Fronting). text (after x)) (first-fails a gs f p) ∙ e ∙ sym (ap (λ (x : Try Fronting). text (after x)) (first-fails a hs f p))
 
 pub thirds-1 : (k : Kind) (n : Word) → text (after (prefixStepsBy (pair thirds 1) k (started n))) ≡ text (after (prefixStepsBy unexchanged k (started n)))
-unfolding prefixStepsBy ordered exchanged inTurn _thenTry_ attempt third-from
+unfolding prefixStepsBy ordered exchanged _thenTry_ attempt third-from
 thirds-1 k n = behind-3a n _ _ (same-text n k (takes prefixStep3bNoun (third-from n)))

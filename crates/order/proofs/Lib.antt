@@ -5,5 +5,6 @@ pub mod Endings
 pub mod Fronts
 pub mod Same
 pub mod Kept
+pub mod Places
 pub mod Settled
 pub mod Defined

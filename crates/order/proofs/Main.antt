@@ -1,13 +1,15 @@
 -- What is shown of the order of the steps: the main theorems of this crate. Assumes nothing.
 use mathlib.Core.Path.{_≡_}
 use mathlib.Core.List.{map}
+use lib.ListN.{getD}
 use Rattle.definition.specs.Words.{Word}
 use Rattle.definition.specs.Kind.{DEFINED, kind}
 use Rattle.definition.specs.Stem.{stem, applied}
-use Rattle.order.specs.Order.{unexchanged, stemBy}
+use Rattle.order.specs.Order.{Place, nowhere, placeNumber, unexchanged, stemBy}
 use Rattle.order.specs.Settled.{AllHold, settled, neighbours, places, pairOf}
 use Rattle.order.proofs.Same.{same}
-use Rattle.order.proofs.Settled.{settled-hold, settled-all}
+use Rattle.order.proofs.Places.{places-all, settled-all}
+use Rattle.order.proofs.Settled.{settled-hold}
 use Rattle.order.proofs.Defined.{AllApplied, Article, defined-fronts}
 
 -- with nothing exchanged, the stem is the definition's
@@ -18,9 +20,13 @@ main-same = same
 pub main-order : AllHold settled
 main-order = settled-hold
 
--- the table has every pair of neighbours
+-- the table has every pair of neighbours of the lists that are run, and no other
 pub main-pairs : map pairOf settled ≡ neighbours places
 main-pairs = settled-all
+
+-- and the list of the places lacks none: each stands there at its number
+pub main-places : (p : Place) → getD places (placeNumber p) nowhere ≡ p
+main-places = places-all
 
 -- of the fronts, a defined word meets Step3a_Noun alone
 pub main-defined : (w : Word) → kind w ≡ DEFINED → AllApplied Article (applied w)

@@ -2,22 +2,18 @@
 use mathlib.Core.Path.{_≡_, refl, sym, ap, _∙_}
 use mathlib.Core.Logic.{inl, inr}
 use mathlib.Core.List.{List, [], _∷_, map}
-use Prim.Native.Nat.{ℕ}
-use native.Mathlib.Omega.{arith}
-use lib.Dec.{leb}
-use Rattle.definition.specs.Letters.{alefMadda, yehHamza, alefMaksura}
-use Rattle.definition.specs.Words.{Word, both, endsWith}
+use Rattle.definition.specs.Letters.{alefMaksura}
+use Rattle.definition.specs.Words.{Word, endsWith}
 use Rattle.definition.specs.Tries.{Step, Try, done, failed, after, ifFailed, _thenTry_, firstOf, attempt}
 use Rattle.definition.specs.Kind.{Kind, ifOpen, kind}
 use Rattle.definition.specs.Normal.{normalise}
 use Rattle.definition.specs.Endings.{Cutting, verb, noun, endings, suffixAllAlefMaqsura, maqsuraIfFailed}
 use Rattle.definition.specs.Fronts.{prefixStep3aNoun, prefixStep3bNoun, Fronting, text, apply, prefixSteps, started, fronts}
-use Rattle.definition.specs.Finish.{last, other, finish}
+use Rattle.definition.specs.Finish.{finish}
 use Rattle.definition.specs.Stem.{cutting, fronting, stemOf, stem}
 use Rattle.definition.proofs.Match.{by}
-use Rattle.definition.proofs.Stays.{other-stays, maqsura-stays}
-use Rattle.definition.proofs.Changed.{Outside, outside}
-use Rattle.order.specs.Order.{unexchanged, ordered, inTurn, allOf, fromHere, backIfFailed, maqsura, lastLetter, allLetters, verbBy, nounBy, endingsBy, prefixStepsBy, finishBy, stemBy}
+use Rattle.definition.proofs.Stays.{maqsura-stays}
+use Rattle.order.specs.Order.{unexchanged, ordered, allOf, fromHere, backIfFailed, maqsura, verbBy, nounBy, endingsBy, prefixStepsBy, finishBy, stemBy}
 use Rattle.order.proofs.Exchange.{Clean, first-fails, first-succeeds}
 use Rattle.order.proofs.Fronts.{third-from, bare, verb-fronts, apply-clean, here-fails}
 
@@ -42,7 +38,7 @@ three f g w = one (f w)
     one (failed b) = two (g b)
 
 endings-same : (k : Kind) (n : Word) → after (endingsBy unexchanged k n) .text ≡ maqsuraIfFailed (endings k n) (cutting k n .text)
-unfolding endingsBy verbBy nounBy ordered inTurn endings verb noun cutting
+unfolding endingsBy verbBy nounBy ordered endings verb noun cutting
 endings-same k n = three (ifOpen k verb) (noun k) (record { text = n; cuts = [] })
 
 -- ---- item 4
@@ -63,27 +59,15 @@ module _ (f : Fronting) (e : f .passed ≡ []) where
       go (failed x) = refl
 
 fronts-same : (k : Kind) (n : Word) → text (after (prefixStepsBy unexchanged k (started n))) ≡ text (fronts k n)
-unfolding prefixStepsBy ordered inTurn fronts prefixSteps _thenTry_ attempt third-from
+unfolding prefixStepsBy ordered fronts prefixSteps _thenTry_ attempt third-from
 fronts-same k n =
     first-same (third-from n) (bare n) (apply prefixStep3aNoun) (apply prefixStep3bNoun ∷ verb-fronts k ∷ []) (apply-clean prefixStep3aNoun (third-from n))
     (first-same (third-from n) (bare n) (apply prefixStep3bNoun) (verb-fronts k ∷ []) (apply-clean prefixStep3bNoun (third-from n)) (last-same (third-from n) (bare n) (verb-fronts k)))
 
 -- ---- item 5
-other-last : (c : ℕ) → other (last c) ≡ last c
-unfolding last other
-other-last c = by (both (leb alefMadda c) (leb c yehHamza))
-    (λ t. rw t refl)
-    (λ t. rw t (go (outside c t)))
-  where
-    go : Outside c → other c ≡ c
-    go (inl h) = other-stays c (λ e. omega arith) (λ e. omega arith) (λ e. omega arith) (λ e. omega arith) (λ e. omega arith)
-    go (inr h) = other-stays c (λ e. omega arith) (λ e. omega arith) (λ e. omega arith) (λ e. omega arith) (λ e. omega arith)
-
 finish-same : (w : Word) → finishBy unexchanged w ≡ finish w
-unfolding finishBy ordered allOf lastLetter allLetters finish
-finish-same [] = refl
-finish-same (c ∷ []) = ap (λ (x : ℕ). x ∷ []) (other-last c)
-finish-same (c ∷ d ∷ w) = ap (λ (x : Word). other c ∷ x) (finish-same (d ∷ w))
+unfolding finishBy ordered allOf finish
+finish-same w = refl
 
 pub same : (w : Word) → stemBy unexchanged w ≡ stem w
 unfolding stemBy ordered allOf stem stemOf fronting

@@ -5,12 +5,12 @@ use lib.Dec.{eqb}
 use lib.ListN.{length}
 use Rattle.definition.specs.Letters.{alefMaksura}
 use Rattle.definition.specs.Words.{Word, pick, endsWith}
-use Rattle.definition.specs.Tries.{Step, Try, done, failed, after, nothing, _thenTry_, firstOf, again, attempt}
-use Rattle.definition.specs.Kind.{Kind, OPEN, ifOpen, kind}
+use Rattle.definition.specs.Tries.{Step, Try, done, failed, after, inTurn, firstOf}
+use Rattle.definition.specs.Kind.{Kind, OPEN, kind}
 use Rattle.definition.specs.Normal.{normalise}
-use Rattle.definition.specs.Endings.{verbStep1, verbStep2a, verbStep2b, verbStep2c, nounStep1a, nounStep1b, nounStep2a, nounStep2b, nounStep2c1, nounStep2c2, nounStep3, Cutting, cut, suffixAllAlefMaqsura}
-use Rattle.definition.specs.Fronts.{prefixStep1, prefixStep2, prefixStep3aNoun, prefixStep3bNoun, prefixStep3Verb, prefixStep4Verb, Fronting, text, apply, started}
-use Rattle.definition.specs.Finish.{last, other}
+use Rattle.definition.specs.Endings.{Cutting, afterVerbStep1, verbStep1InTurn, verbChoices, afterNounStep1a, nounStep1aInTurn, afterNounStep1b, nounStep1bInTurn, nounChoices, nounInTurn, endingChoices, suffixAllAlefMaqsura}
+use Rattle.definition.specs.Fronts.{Fronting, text, prefixStep3VerbInTurn, prefixStep3Choices, prefixesInTurn, started}
+use Rattle.definition.specs.Finish.{lastLetter, allLetters}
 
 -- The places where steps stand in an order: they follow each other, or the first that succeeds is taken.
 pub data Place : Type 0 where
@@ -76,12 +76,6 @@ module _ {A : Type 0} where
   unfoldable pub ordered : Pair → Place → List A → List A
   ordered x p fs = pick (eqb (placeNumber (x .place)) (placeNumber p)) (exchanged (x .first) fs) fs
 
-  -- steps that follow each other, as long as they succeed
-  unfoldable pub inTurn : List (Step A) → Step A
-  inTurn [] = nothing
-  inTurn (f ∷ []) = f
-  inTurn (f ∷ g ∷ fs) = f thenTry inTurn (g ∷ fs)
-
   -- changes one after the other
   unfoldable pub allOf : List (A → A) → A → A
   allOf [] a = a
@@ -90,6 +84,10 @@ module _ {A : Type 0} where
 -- the last 0649 of item 3: it succeeds where the last letter is 0649
 unfoldable pub maqsura : Step Cutting
 maqsura v = pick (endsWith (v .text) (alefMaksura ∷ [])) (done (record { text = suffixAllAlefMaqsura (v .text); cuts = v .cuts })) (failed v)
+
+-- verb and noun of the definition, and behind them the last 0649
+abbrev pub allEndings : Kind → Step Cutting → Step Cutting → List (Step Cutting)
+allEndings k verb noun = endingChoices k verb noun ++ (maqsura ∷ [])
 
 -- Item 4: where an alternative fails, the cursor goes back to where it stood before Step3, when nothing was passed yet.
 abbrev pub back : Fronting → Fronting
@@ -102,14 +100,9 @@ backIfFailed (failed f) = failed (back f)
 abbrev pub fromHere : Step Fronting → Step Fronting
 fromHere g f = backIfFailed (g f)
 
--- the two halves of item 5, as in the Rust: the last letter, then all letters
-unfoldable pub lastLetter : Word → Word
-lastLetter [] = []
-lastLetter (c ∷ []) = last c ∷ []
-lastLetter (c ∷ d ∷ w) = c ∷ lastLetter (d ∷ w)
-
-unfoldable pub allLetters : Word → Word
-allLetters w = map other w
+-- the two halves of item 5
+abbrev pub halves : List (Word → Word)
+halves = lastLetter ∷ allLetters ∷ []
 
 -- a word on its way, with the kind that it has so far
 pub record Under : Type 0 where
@@ -119,68 +112,63 @@ pub record Under : Type 0 where
 abbrev pub changed : (Kind → Word → Word) → Under → Under
 changed f u = record { is = u .is; word = f (u .is) (u .word) }
 
+-- the five items, as a function of the last three
+abbrev pub items : (Kind → Word → Word) → (Kind → Word → Word) → (Word → Word) → List (Under → Under)
+items third fourth fifth =
+    (λ (u : Under). record { is = kind (u .word); word = u .word })
+    ∷ changed (λ (k : Kind) (n : Word). normalise n)
+    ∷ changed third
+    ∷ changed fourth
+    ∷ changed (λ (k : Kind) (n : Word). fifth n)
+    ∷ []
+
+-- The definition's lists of steps, with the pair x exchanged where it stands.
 module _ (x : Pair) where
   -- ---- the verb
   abbrev pub verbSequelBy : Step Cutting
-  verbSequelBy = firstOf (ordered x verbSequel (cut verbStep2a ∷ cut verbStep2c ∷ nothing ∷ []))
+  verbSequelBy = firstOf (ordered x verbSequel afterVerbStep1)
 
   -- n bounds the number of cuts
   abbrev pub verbTurnsBy : ℕ → Step Cutting
-  verbTurnsBy n = inTurn (ordered x verbTurns ((cut verbStep1 thenTry again n (cut verbStep1)) ∷ verbSequelBy ∷ []))
+  verbTurnsBy n = inTurn (ordered x verbTurns (verbStep1InTurn n verbSequelBy))
 
   unfoldable pub verbBy : Step Cutting
-  verbBy v = firstOf (ordered x verbs (verbTurnsBy (length (v .text)) ∷ cut verbStep2b ∷ cut verbStep2a ∷ [])) v
+  verbBy v = firstOf (ordered x verbs (verbChoices (verbTurnsBy (length (v .text))))) v
 
   -- ---- the noun
   abbrev pub step1aBy : Step Cutting
-  step1aBy = inTurn (ordered x step1aTurns (
-      cut nounStep1a
-      ∷ firstOf (ordered x step1aSequel (cut nounStep2a ∷ cut nounStep2b ∷ cut nounStep2c1 ∷ nothing ∷ []))
-      ∷ []))
+  step1aBy = inTurn (ordered x step1aTurns (nounStep1aInTurn (firstOf (ordered x step1aSequel afterNounStep1a))))
 
   abbrev pub step1bBy : Step Cutting
-  step1bBy = inTurn (ordered x step1bTurns (
-      cut nounStep1b
-      ∷ firstOf (ordered x step1bSequel (cut nounStep2a ∷ cut nounStep2b ∷ cut nounStep2c1 ∷ []))
-      ∷ []))
+  step1bBy = inTurn (ordered x step1bTurns (nounStep1bInTurn (firstOf (ordered x step1bSequel afterNounStep1b))))
 
   abbrev pub nounFirstBy : Kind → Step Cutting
-  nounFirstBy k = firstOf (ordered x nouns (
-      cut nounStep2c2
-      ∷ ifOpen k step1aBy
-      ∷ step1bBy
-      ∷ ifOpen k (cut nounStep2a)
-      ∷ cut nounStep2b
-      ∷ nothing
-      ∷ []))
+  nounFirstBy k = firstOf (ordered x nouns (nounChoices k step1aBy step1bBy))
 
   unfoldable pub nounBy : Kind → Step Cutting
-  nounBy k = inTurn (ordered x nounTurns (nounFirstBy k ∷ cut nounStep3 ∷ []))
+  nounBy k = inTurn (ordered x nounTurns (nounInTurn (nounFirstBy k)))
 
   -- ---- item 3
   unfoldable pub endingsBy : Kind → Word → Try Cutting
-  endingsBy k n = firstOf (ordered x ends (ifOpen k verbBy ∷ nounBy k ∷ maqsura ∷ [])) (record { text = n; cuts = [] })
+  endingsBy k n = firstOf (ordered x ends (allEndings k verbBy (nounBy k))) (record { text = n; cuts = [] })
 
   -- ---- item 4
   abbrev pub verbFrontsBy : Step Fronting
-  verbFrontsBy = inTurn (ordered x verbFronts (attempt (apply prefixStep3Verb) ∷ apply prefixStep4Verb ∷ []))
+  verbFrontsBy = inTurn (ordered x verbFronts prefixStep3VerbInTurn)
 
   abbrev pub thirdsBy : Kind → Step Fronting
-  thirdsBy k = firstOf (map fromHere (ordered x thirds (apply prefixStep3aNoun ∷ apply prefixStep3bNoun ∷ ifOpen k verbFrontsBy ∷ [])))
+  thirdsBy k = firstOf (map fromHere (ordered x thirds (prefixStep3Choices k verbFrontsBy)))
 
   unfoldable pub prefixStepsBy : Kind → Step Fronting
-  prefixStepsBy k = inTurn (ordered x fronts (attempt (apply prefixStep1) ∷ attempt (apply prefixStep2) ∷ thirdsBy k ∷ []))
+  prefixStepsBy k = inTurn (ordered x fronts (prefixesInTurn (thirdsBy k)))
 
   -- ---- item 5
   unfoldable pub finishBy : Word → Word
-  finishBy w = allOf (ordered x finishing (lastLetter ∷ allLetters ∷ [])) w
+  finishBy w = allOf (ordered x finishing halves) w
 
   -- ---- a word's way
   unfoldable pub stemBy : Word → Word
-  stemBy w = allOf (ordered x way (
-      (λ (u : Under). record { is = kind (u .word); word = u .word })
-      ∷ changed (λ (k : Kind) (n : Word). normalise n)
-      ∷ changed (λ (k : Kind) (n : Word). after (endingsBy k n) .text)
-      ∷ changed (λ (k : Kind) (n : Word). text (after (prefixStepsBy k (started n))))
-      ∷ changed (λ (k : Kind) (n : Word). finishBy n)
-      ∷ [])) (record { is = OPEN; word = w }) .word
+  stemBy w = allOf (ordered x way (items
+      (λ (k : Kind) (n : Word). after (endingsBy k n) .text)
+      (λ (k : Kind) (n : Word). text (after (prefixStepsBy k (started n))))
+      finishBy)) (record { is = OPEN; word = w }) .word

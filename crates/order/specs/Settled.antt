@@ -3,9 +3,14 @@ use mathlib.Core.Path.{_≡_}
 use mathlib.Core.Bool.{false}
 use mathlib.Core.List.{List, [], _∷_, _++_}
 use Prim.Native.Nat.{ℕ, zero, suc, _-_}
+use lib.ListN.{length}
 use Rattle.definition.specs.Words.{Word, same}
+use Rattle.definition.specs.Tries.{nothing}
+use Rattle.definition.specs.Kind.{Kind, OPEN}
+use Rattle.definition.specs.Endings.{afterVerbStep1, verbStep1InTurn, verbChoices, afterNounStep1a, nounStep1aInTurn, afterNounStep1b, nounStep1bInTurn, nounChoices, nounInTurn}
+use Rattle.definition.specs.Fronts.{prefixStep3VerbInTurn, prefixStep3Choices, prefixesInTurn}
 use Rattle.definition.specs.Stem.{stem}
-use Rattle.order.specs.Order.{Place, way, ends, verbs, verbTurns, verbSequel, nounTurns, nouns, step1aTurns, step1aSequel, step1bTurns, step1bSequel, fronts, thirds, verbFronts, finishing, nowhere, Pair, pair, stemBy}
+use Rattle.order.specs.Order.{Place, way, ends, verbs, verbTurns, verbSequel, nounTurns, nouns, step1aTurns, step1aSequel, step1bTurns, step1bSequel, fronts, thirds, verbFronts, finishing, nowhere, Pair, pair, allEndings, halves, items, stemBy}
 
 -- no word's stem changes
 abbrev pub Unshown : Pair → Type 0
@@ -94,23 +99,23 @@ settled =
 
 -- ---- all pairs of neighbours, in the same order
 
--- how many steps stand at a place
+-- How many steps stand at a place: as many as the list has that is run there. What is nested in the list does not matter.
 abbrev pub entries : Place → ℕ
-entries way = 5
-entries ends = 3
-entries verbs = 3
-entries verbTurns = 2
-entries verbSequel = 3
-entries nounTurns = 2
-entries nouns = 6
-entries step1aTurns = 2
-entries step1aSequel = 4
-entries step1bTurns = 2
-entries step1bSequel = 3
-entries fronts = 3
-entries thirds = 3
-entries verbFronts = 2
-entries finishing = 2
+entries way = length (items (λ (k : Kind) (n : Word). n) (λ (k : Kind) (n : Word). n) (λ (n : Word). n))
+entries ends = length (allEndings OPEN nothing nothing)
+entries verbs = length (verbChoices nothing)
+entries verbTurns = length (verbStep1InTurn 0 nothing)
+entries verbSequel = length afterVerbStep1
+entries nounTurns = length (nounInTurn nothing)
+entries nouns = length (nounChoices OPEN nothing nothing)
+entries step1aTurns = length (nounStep1aInTurn nothing)
+entries step1aSequel = length afterNounStep1a
+entries step1bTurns = length (nounStep1bInTurn nothing)
+entries step1bSequel = length afterNounStep1b
+entries fronts = length (prefixesInTurn nothing)
+entries thirds = length (prefixStep3Choices OPEN nothing)
+entries verbFronts = length prefixStep3VerbInTurn
+entries finishing = length halves
 entries nowhere = 0
 
 -- the first n pairs of a place from its pair i on
@@ -122,6 +127,7 @@ abbrev pub neighbours : List Place → List Pair
 neighbours [] = []
 neighbours (p ∷ ps) = pairsFrom p 0 (entries p - 1) ++ neighbours ps
 
+-- main-places: no place is missing
 abbrev pub places : List Place
 places =
     way ∷ ends ∷ verbs ∷ verbTurns ∷ verbSequel ∷ nounTurns ∷ nouns ∷ step1aTurns ∷ step1aSequel ∷ step1bTurns ∷ step1bSequel ∷ fronts ∷ thirds ∷ verbFronts ∷ finishing ∷ []
