@@ -1,5 +1,6 @@
 pub mod Main
 pub mod Examples
+pub mod Listed
 pub mod Stays
 pub mod Finish
 pub mod Rows

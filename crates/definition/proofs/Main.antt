@@ -16,8 +16,10 @@ use Rattle.definition.specs.Finish.{last, other, finish}
 use Rattle.definition.specs.Stem.{cutting, stem}
 use Rattle.definition.specs.Demand3.{Demand3}
 use Rattle.definition.specs.Examples.{computed, twelve, work, examples}
+use Rattle.definition.specs.Listed.{EveryClassListed}
 use Rattle.definition.proofs.Examples.{examples-right}
 use Rattle.definition.proofs.Finish.{finish-all}
+use Rattle.definition.proofs.Listed.{every-class-listed}
 use Rattle.definition.proofs.Rows.{replaced, last-rows, other-rows, maqsura-row}
 use Rattle.definition.proofs.Found.{Longest}
 use Rattle.definition.proofs.Unique.{distinct, rigid-front, rigid-end, longest-is, allTables, distinct-all}
@@ -45,6 +47,10 @@ main-twelve = examples-right .0
 
 pub main-examples : map work examples ≡ examples
 main-examples = examples-right .1
+
+-- every class of every table has its guard and its replacement
+pub main-listed : EveryClassListed
+main-listed = every-class-listed
 
 -- a row in front that matches and is longest is the one that the search answers; likewise at the end
 pub main-front : (w : Word) (t : Table) → distinct t ≡ true → (r : ℕ) → r < length t → beginsWith w (rowAt t r .letters) ≡ true

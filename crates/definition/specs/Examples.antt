@@ -1,7 +1,7 @@
 -- Words and what the definition gives for them: document 01's twelve, and worked examples for every step that changes a word.
 use Prim.Native.Nat.{ℕ}
 use mathlib.Core.List.{List, [], _∷_}
-use Rattle.definition.specs.Letters.{hamza, alefHamzaAbove, wawHamza, alef, beh, tehMarbuta, teh, jeem, hah, khah, dal, reh, seen, kaf, lam, meem, noon, heh, waw, alefMaksura, yeh}
+use Rattle.definition.specs.Letters.{hamza, alefHamzaAbove, wawHamza, alef, beh, tehMarbuta, teh, jeem, hah, khah, dal, reh, seen, feh, kaf, lam, meem, noon, heh, waw, alefMaksura, yeh}
 use Rattle.definition.specs.Words.{Word}
 use Rattle.definition.specs.Kind.{Kind, OPEN, DEFINED, kind}
 use Rattle.definition.specs.Endings.{SuffixStep, verbStep1, verbStep2a, verbStep2b, verbStep2c, nounStep1b, nounStep2a, nounStep2b, nounStep2c1, nounStep2c2, nounStep3, Cut}
@@ -67,6 +67,8 @@ examples =
     ∷ worked (kaf ∷ teh ∷ beh ∷ waw ∷ alef ∷ []) OPEN (row verbStep2b 1 ∷ []) [] (kaf ∷ teh ∷ beh ∷ [])
     -- just missed, and so Step2a
     ∷ worked (kaf ∷ teh ∷ waw ∷ alef ∷ []) OPEN (row verbStep2a 6 ∷ []) [] (kaf ∷ teh ∷ waw ∷ [])
+    -- the guard of Step1 is just missed
+    ∷ worked (meem ∷ lam ∷ kaf ∷ []) OPEN [] [] (meem ∷ lam ∷ kaf ∷ [])
     -- the noun: Step2c2 and then Step3
     ∷ worked (dal ∷ reh ∷ yeh ∷ tehMarbuta ∷ []) OPEN (row nounStep2c2 0 ∷ row nounStep3 0 ∷ []) [] (dal ∷ reh ∷ [])
     -- Step3 fails, and the last 0649 becomes 064A
@@ -80,12 +82,17 @@ examples =
     -- Step1b and then Step2b, Step1b and then Step2c1: the guard of Step3a_Noun is just missed
     ∷ worked (alef ∷ lam ∷ beh ∷ noon ∷ alef ∷ teh ∷ noon ∷ []) DEFINED (row nounStep1b 0 ∷ row nounStep2b 0 ∷ []) [] (alef ∷ lam ∷ beh ∷ noon ∷ [])
     ∷ worked (alef ∷ lam ∷ beh ∷ noon ∷ teh ∷ noon ∷ []) DEFINED (row nounStep1b 0 ∷ row nounStep2c1 0 ∷ []) [] (alef ∷ lam ∷ beh ∷ noon ∷ [])
+    -- Step1b, Step2a and then Step3 on its own 064A
+    ∷ worked (alef ∷ lam ∷ beh ∷ yeh ∷ yeh ∷ noon ∷ []) DEFINED (row nounStep1b 0 ∷ row nounStep2a 1 ∷ row nounStep3 0 ∷ []) [] (alef ∷ lam ∷ beh ∷ [])
     -- Step1b's cut stays where its sequel fails
     ∷ worked (alef ∷ lam ∷ meem ∷ seen ∷ kaf ∷ noon ∷ []) DEFINED (row nounStep1b 0 ∷ []) (at prefixStep3aNoun 0 ∷ []) (meem ∷ seen ∷ kaf ∷ [])
-    -- Step2 with its guard just met, and just missed where bytes would meet it; not at 0648 0627
+    -- Step2 with its guard just met, and just missed where bytes would meet it; not at 0648 0627, and not at 0641 0627
     ∷ worked (waw ∷ kaf ∷ teh ∷ beh ∷ []) OPEN [] (at prefixStep2 1 ∷ []) (kaf ∷ teh ∷ beh ∷ [])
     ∷ worked (waw ∷ kaf ∷ beh ∷ []) OPEN [] [] (waw ∷ kaf ∷ beh ∷ [])
     ∷ worked (waw ∷ alef ∷ lam ∷ beh ∷ hah ∷ reh ∷ []) OPEN [] [] (waw ∷ alef ∷ lam ∷ beh ∷ hah ∷ reh ∷ [])
+    ∷ worked (feh ∷ alef ∷ reh ∷ seen ∷ []) OPEN [] [] (feh ∷ alef ∷ reh ∷ seen ∷ [])
+    -- Step1 on 0623 0624 leaves 0623
+    ∷ worked (alefHamzaAbove ∷ wawHamza ∷ kaf ∷ dal ∷ []) OPEN [] (at prefixStep1 2 ∷ []) (alef ∷ kaf ∷ dal ∷ [])
     -- Step1 leaves a head letter, Step2 reads behind it, Step3a_Noun takes three: five letters go
     ∷ worked (alefHamzaAbove ∷ alef ∷ waw ∷ beh ∷ alef ∷ lam ∷ dal ∷ reh ∷ []) OPEN [] (at prefixStep3aNoun 1 ∷ at prefixStep2 1 ∷ at prefixStep1 4 ∷ []) (alef ∷ dal ∷ reh ∷ [])
     -- Step3b_Noun takes one of two

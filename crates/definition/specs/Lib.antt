@@ -9,5 +9,6 @@ pub mod Endings
 pub mod Fronts
 pub mod Finish
 pub mod Stem
+pub mod Listed
 pub mod Examples
 pub mod Demand3
