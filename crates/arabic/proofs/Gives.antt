@@ -9,34 +9,45 @@ use lib.ListN.{getD}
 use borrow.Author.Tests.{ltb-true, ne-eqb, lt-ltb, le-ltb}
 use Rattle.utf8.specs.Utf8.{Scalar, Scalars, encode1, encode}
 use Rattle.utf8.proofs.Text.{encode-one, encode-append, scalars-append}
-use Rattle.definition.specs.Words.{Word, every, same}
+use Rattle.definition.specs.Words.{Word, both, every, same}
 use Rattle.definition.specs.Tables.{Row, Table}
 use Rattle.definition.specs.Normal.{gives, listedFor, given, normal, normalise}
 use Rattle.definition.proofs.Match.{both-0, both-1, by, same-eq}
 use Rattle.snowball.specs.Rows.{low}
 use Rattle.snowball.proofs.Answers.{low-scalars}
-use Rattle.arabic.specs.Rows.{classOf, packed, unpacked, givenFrom, packedGives}
-use Rattle.arabic.proofs.Table.{kept, normal-class}
+use Rattle.arabic.specs.Rows.{classOf, packed, unpacked, givenFrom, packedGives, rightLetters}
+use Rattle.arabic.proofs.Table.{right-gives, kept, normal-class}
 
--- a property of no letters and of every row's letters is one of what is listed for a class
-listed : (P : Word → Type 0) (p : Row → Bool) → P [] → ((r : Row) → p r ≡ true → P (r .letters))
-    → (t : Table) → every p t ≡ true → (k : ℕ) → P (listedFor t k)
-unfolding listedFor
-listed P p n f [] e k = n
-listed P p n f (r ∷ t) e k =
-    by (eqb (r .class) k) (λ b. rw b (f r (both-0 (p r) (every p t) e))) (λ b. rw b (listed P p n f t (both-1 (p r) (every p t) e) k))
+-- ---- what the test of A_0 says of the letters that a class gives
 
--- ---- packing keeps the letters
+abbrev rightFor : Row → Bool
+rightFor r = rightLetters (r .letters)
 
-abbrev keeps : Row → Bool
-keeps r = same (unpacked (packed (r .letters))) (r .letters)
+right-for : (t : Table) → every rightFor t ≡ true → (k : ℕ) → rightLetters (listedFor t k) ≡ true
+unfolding listedFor same
+right-for [] e k = refl
+right-for (r ∷ t) e k =
+    by (eqb (r .class) k) (λ b. rw b (both-0 (rightFor r) (every rightFor t) e)) (λ b. rw b (right-for t (both-1 (rightFor r) (every rightFor t) e) k))
 
-all-keep : every keeps gives ≡ true
-unfolding gives same
-all-keep = refl
+module _ (k : ℕ) where
+  abbrev w : Word
+  w = listedFor gives k
 
-unpacked-listed : (k : ℕ) → unpacked (packed (listedFor gives k)) ≡ listedFor gives k
-unpacked-listed k = listed (λ w. unpacked (packed w) ≡ w) keeps refl (λ r e. same-eq (unpacked (packed (r .letters))) (r .letters) e) gives all-keep k
+  right : rightLetters (listedFor gives k) ≡ true
+  right = right-for gives right-gives k
+
+  -- packing keeps them
+  unpacked-listed : unpacked (packed (listedFor gives k)) ≡ listedFor gives k
+  unpacked-listed = same-eq (unpacked (packed w)) w (both-0 (same (unpacked (packed w)) w) (both (ltb (packed w) 0x10000000) (low w)) right)
+
+  short-and-low : both (ltb (packed (listedFor gives k)) 0x10000000) (low (listedFor gives k)) ≡ true
+  short-and-low = both-1 (same (unpacked (packed w)) w) (both (ltb (packed w) 0x10000000) (low w)) right
+
+  short-listed : packed (listedFor gives k) < 0x10000000
+  short-listed = ltb-true (packed w) 0x10000000 (both-0 (ltb (packed w) 0x10000000) (low w) short-and-low)
+
+  scalars-listed : Scalars (listedFor gives k)
+  scalars-listed = low-scalars w (both-1 (ltb (packed w) 0x10000000) (low w) short-and-low)
 
 given-at : (n k j : ℕ) → j < n → getD (givenFrom n k) j 0 ≡ packed (listedFor gives (k + j))
 given-at zero k j h = absurd (omega arith)
@@ -66,10 +77,6 @@ no-bytes = refl
 two-bytes : (x y : ℕ) → encode (x ∷ y ∷ []) ≡ encode1 x ++ encode1 y
 two-bytes x y = encode-append (x ∷ []) (y ∷ []) ∙ rw (encode-one x, encode-one y)
 
-all-short : every (λ (r : Row). ltb (packed (r .letters)) 0x10000000) gives ≡ true
-unfolding gives
-all-short = refl
-
 -- v is the number of the class k
 module _ (c k v : ℕ) (e : v ≡ getD packedGives k 0) (l : k < 56) (h : k ≡ 0 → ⊥) where
   by-number : encode (given c k) ≡ encode (unpacked v)
@@ -86,22 +93,14 @@ module _ (c k v : ℕ) (e : v ≡ getD packedGives k 0) (l : k < 56) (h : k ≡ 
 
   pub give-small : v < 0x10000000
   unfolding packedGives
-  give-small =
-      let s : packed (listedFor gives (0 + k)) < 0x10000000 =
-      listed (λ w. packed w < 0x10000000) (λ (r : Row). ltb (packed (r .letters)) 0x10000000)
-      (omega arith) (λ r. ltb-true (packed (r .letters)) 0x10000000) gives all-short (0 + k) in
-      omega (arith, e, given-at 56 0 k l)
+  give-small = omega (arith, e, given-at 56 0 k l, short-listed (0 + k))
 
 -- ---- what is given are scalar values
-
-all-low : every (λ (r : Row). low (r .letters)) gives ≡ true
-unfolding gives
-all-low = refl
 
 given-scalars : (c k : ℕ) → Scalar c → Scalars (given c k)
 unfolding given
 given-scalars c zero s = (s, tt)
-given-scalars c (suc k) s = listed Scalars (λ (r : Row). low (r .letters)) tt (λ r e. low-scalars (r .letters) e) gives all-low (suc k)
+given-scalars c (suc k) s = scalars-listed (suc k)
 
 pub normalise-scalars : (w : Word) → Scalars w → Scalars (normalise w)
 unfolding normalise

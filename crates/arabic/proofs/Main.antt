@@ -1,5 +1,6 @@
 -- What is shown of the letter loops beside the functions' contracts, each closed by the file that proves it. Assumes nothing.
 use mathlib.Core.Path.{_≡_}
+use mathlib.Core.Bool.{true}
 use Prim.Native.Nat.{ℕ, _*_, _≤_}
 use native.Mathlib.Omega.{arith}
 use lib.ListN.{length, getD}
@@ -7,9 +8,13 @@ use Rattle.utf8.specs.Utf8.{encode}
 use Rattle.definition.specs.Words.{Word}
 use Rattle.definition.specs.Normal.{normalise}
 use Rattle.definition.specs.Finish.{finish}
-use Rattle.arabic.specs.Rows.{classes, rowOf, classOf}
-use Rattle.arabic.proofs.Table.{class-at, normalise-grows}
+use Rattle.arabic.specs.Rows.{classes, rowOf, classOf, rightTable}
+use Rattle.arabic.proofs.Table.{right-table, class-at, normalise-grows}
 use Rattle.arabic.proofs.Changes.{finish-size}
+
+-- the one test of A_0: its keys rise, each row is a letter with a class, and what each gives fits
+pub main-table : rightTable ≡ true
+main-table = right-table
 
 -- item 2 makes a word longer by a third at most: 255 bytes become at most 340
 pub main-grows : (w : Word) → 3 * length (encode (normalise w)) ≤ 4 * length (encode w)

@@ -1,64 +1,100 @@
--- The rows of A_0: the order of its keys, and the row and the class of a letter. Each fact of the whole table is one computed test.
+-- The rows of A_0, by one computed test of the whole table: the order of its keys, and the row and the class of a letter.
 -- Assumes nothing.
 use mathlib.Core.Path.{_≡_, refl, sym, ap, _∙_, subst}
-use mathlib.Core.Bool.{Bool, true, false, false≢true}
+use mathlib.Core.Bool.{Bool, true}
 use mathlib.Core.Logic.{⊎-elim}
-use mathlib.Core.List.{List, [], _∷_, _++_, map}
+use mathlib.Core.List.{[], _∷_, _++_, map}
 use Prim.Native.Nat.{ℕ, zero, suc, _*_, _≤_, _<_}
 use native.Mathlib.Omega.{arith}
-use lib.Dec.{ltb, leb}
+use lib.Dec.{eqb, ltb, leb}
 use lib.ListN.{length, getD, length-append, List·getD-map}
-use borrow.Author.Tests.{ltb-true, leb-true}
+use borrow.Author.Tests.{eqb-true, ltb-true, leb-true}
 use Rattle.utf8.specs.Utf8.{encode1, encode}
 use Rattle.utf8.proofs.Text.{encode-one, encode-append}
-use Rattle.definition.specs.Words.{Word, both, every, beginsWith}
-use Rattle.definition.specs.Tables.{Row, «A_0»}
+use Rattle.definition.specs.Words.{Word, both, every, same, beginsWith}
+use Rattle.definition.specs.Tables.{Row, Table, «A_0»}
 use Rattle.definition.specs.Search.{rowAt}
 use Rattle.definition.specs.Normal.{gives, listedFor, given, normal, normalise}
 use Rattle.definition.proofs.Match.{both-0, both-1, begins-split, begins-of}
-use Rattle.definition.proofs.Found.{all-at, longest-found, row-behind}
+use Rattle.definition.proofs.Found.{longest-found, row-behind}
 use Rattle.definition.proofs.Unique.{longest-at, longest-none}
-use Rattle.arabic.specs.Rows.{keyOf, keys, classes, rowOf, classOf}
+use Rattle.arabic.specs.Rows.{keyOf, keys, classes, rowOf, classOf, rightRow, rightRows, rightLetters, rightTable}
 
 length-rows : length «A_0» ≡ 161
 unfolding «A_0»
 length-rows = refl
 
+-- ---- the one test, and its parts
+
+pub right-table : rightTable ≡ true
+unfolding «A_0» given gives listedFor encode encode1 same
+right-table = refl
+
+right-rows : rightRows 0 «A_0» ≡ true
+right-rows = both-0 (rightRows 0 «A_0») (every (λ (r : Row). rightLetters (r .letters)) gives) right-table
+
+pub right-gives : every (λ (r : Row). rightLetters (r .letters)) gives ≡ true
+right-gives = both-1 (rightRows 0 «A_0») (every (λ (r : Row). rightLetters (r .letters)) gives) right-table
+
+-- the test of a table, taken apart at its first row
+module _ (p : ℕ) (r : Row) (t : Table) (e : rightRows p (r ∷ t) ≡ true) where
+  first-above : p < keyOf r
+  first-above = ltb-true p (keyOf r) (both-0 (ltb p (keyOf r)) (both (rightRow r) (rightRows (keyOf r) t)) e)
+
+  first-right : rightRow r ≡ true
+  first-right = both-0 (rightRow r) (rightRows (keyOf r) t) (both-1 (ltb p (keyOf r)) (both (rightRow r) (rightRows (keyOf r) t)) e)
+
+  rest-right : rightRows (keyOf r) t ≡ true
+  rest-right = both-1 (rightRow r) (rightRows (keyOf r) t) (both-1 (ltb p (keyOf r)) (both (rightRow r) (rightRows (keyOf r) t)) e)
+
+right-at : (p : ℕ) (t : Table) → rightRows p t ≡ true → (k : ℕ) → k < length t → rightRow (rowAt t k) ≡ true
+right-at p [] e k h = absurd (omega arith)
+right-at p (r ∷ t) e zero h = first-right p r t e
+right-at p (r ∷ t) e (suc k) h = right-at (keyOf r) t (rest-right p r t e) k (omega arith)
+
 -- ---- the keys rise
 
-abbrev rises : ℕ → List ℕ → Bool
-rises p [] = true
-rises p (x ∷ xs) = both (ltb p x) (rises x xs)
+above : (p : ℕ) (t : Table) → rightRows p t ≡ true → (k : ℕ) → k < length t → p < getD (map keyOf t) k 0
+above p [] e k h = absurd (omega arith)
+above p (r ∷ t) e zero h = first-above p r t e
+above p (r ∷ t) e (suc k) h = omega (arith, first-above p r t e, above (keyOf r) t (rest-right p r t e) k (omega arith))
 
-above : (p : ℕ) (xs : List ℕ) → rises p xs ≡ true → (k : ℕ) → k < length xs → p < getD xs k 0
-above p [] t k h = absurd (omega arith)
-above p (x ∷ xs) t zero h = ltb-true p x (both-0 (ltb p x) (rises x xs) t)
-above p (x ∷ xs) t (suc k) h =
-    let a = ltb-true p x (both-0 (ltb p x) (rises x xs) t) in
-    let b = above x xs (both-1 (ltb p x) (rises x xs) t) k (omega arith) in
-    omega arith
-
-rising : (p : ℕ) (xs : List ℕ) → rises p xs ≡ true → (i j : ℕ) → i < j → j < length xs → getD xs i 0 < getD xs j 0
-rising p [] t i j h k = absurd (omega arith)
-rising p (x ∷ xs) t i zero h k = absurd (omega arith)
-rising p (x ∷ xs) t zero (suc j) h k = above x xs (both-1 (ltb p x) (rises x xs) t) j (omega arith)
-rising p (x ∷ xs) t (suc i) (suc j) h k = rising x xs (both-1 (ltb p x) (rises x xs) t) i j (omega arith) (omega arith)
+rising : (p : ℕ) (t : Table) → rightRows p t ≡ true → (i j : ℕ) → i < j → j < length t → getD (map keyOf t) i 0 < getD (map keyOf t) j 0
+rising p [] e i j h k = absurd (omega arith)
+rising p (r ∷ t) e i zero h k = absurd (omega arith)
+rising p (r ∷ t) e zero (suc j) h k = above (keyOf r) t (rest-right p r t e) j (omega arith)
+rising p (r ∷ t) e (suc i) (suc j) h k = rising (keyOf r) t (rest-right p r t e) i j (omega arith) (omega arith)
 
 pub keys-rise : (i j : ℕ) → i < j → j < 161 → getD keys i 0 < getD keys j 0
-unfolding keys «A_0»
-keys-rise i j h k = rising 0 keys refl i j h k
+unfolding keys
+keys-rise i j h k = rising 0 «A_0» right-rows i j h (omega (arith, length-rows))
 
--- ---- each row is one letter
+-- ---- what the test says of a row
 
-abbrev single : Word → Bool
-single [] = false
-single (c ∷ []) = true
-single (c ∷ d ∷ w) = false
-
-single-word : (w : Word) → single w ≡ true → w ≡ getD w 0 0 ∷ []
-single-word [] e = absurd (false≢true e)
+-- one letter; its class; how long what stands for it is
+single-word : (w : Word) → length w ≡ 1 → w ≡ getD w 0 0 ∷ []
+single-word [] e = absurd (omega arith)
 single-word (c ∷ []) e = refl
-single-word (c ∷ d ∷ w) e = absurd (false≢true e)
+single-word (c ∷ d ∷ w) e = absurd (omega arith)
+
+module _ (r : Row) (e : rightRow r ≡ true) where
+  abbrev grown : Bool
+  grown = leb (3 * length (encode (given (keyOf r) (r .class)))) (4 * length (encode1 (keyOf r)))
+
+  one-letter : r .letters ≡ keyOf r ∷ []
+  one-letter = single-word (r .letters) (eqb-true (length (r .letters)) 1 (both-0 (eqb (length (r .letters)) 1) (both (ltb 0 (r .class)) (both (ltb (r .class) 56) grown)) e))
+
+  classed : both (ltb (r .class) 56) grown ≡ true
+  classed = both-1 (ltb 0 (r .class)) (both (ltb (r .class) 56) grown) (both-1 (eqb (length (r .letters)) 1) (both (ltb 0 (r .class)) (both (ltb (r .class) 56) grown)) e)
+
+  small-class : r .class < 56
+  small-class = ltb-true (r .class) 56 (both-0 (ltb (r .class) 56) grown classed)
+
+  third-longer : 3 * length (encode (given (keyOf r) (r .class))) ≤ 4 * length (encode1 (keyOf r))
+  third-longer = leb-true _ _ (both-1 (ltb (r .class) 56) grown classed)
+
+right-row : (r : ℕ) → r < 161 → rightRow (rowAt «A_0» r) ≡ true
+right-row r h = right-at 0 «A_0» right-rows r (omega (arith, length-rows))
 
 abbrev none : Row
 none = record { letters = []; class = 0 }
@@ -67,14 +103,8 @@ key-at : (r : ℕ) → keyOf (rowAt «A_0» r) ≡ getD keys r 0
 unfolding keys
 key-at r = sym (List·getD-map keyOf «A_0» r none)
 
-all-single : every (λ (r : Row). single (r .letters)) «A_0» ≡ true
-unfolding «A_0»
-all-single = refl
-
 row-letters : (r : ℕ) → r < 161 → rowAt «A_0» r .letters ≡ getD keys r 0 ∷ []
-row-letters r h =
-    single-word (rowAt «A_0» r .letters) (all-at (λ (r : Row). single (r .letters)) «A_0» all-single r (omega (arith, length-rows)))
-    ∙ ap (λ (c : ℕ). c ∷ []) (key-at r)
+row-letters r h = one-letter (rowAt «A_0» r) (right-row r h) ∙ ap (λ (c : ℕ). c ∷ []) (key-at r)
 
 -- ---- the row of a letter is the one with its key
 
@@ -118,40 +148,19 @@ by-row c f g =
 pub row-top : (c : ℕ) → rowOf c ≤ 161
 row-top c = by-row c (λ h e. omega arith) (λ h e. omega arith)
 
-pad : (l : List ℕ) (r : ℕ) → getD (l ++ (0 ∷ [])) r 0 ≡ getD l r 0
-pad [] zero = refl
-pad [] (suc r) = refl
-pad (x ∷ l) zero = refl
-pad (x ∷ l) (suc r) = pad l r
-
 pub class-at : (c : ℕ) → getD classes (rowOf c) 0 ≡ classOf c
 unfolding classes classOf
-class-at c = pad (map (λ (r : Row). r .class) «A_0») (rowOf c) ∙ List·getD-map (λ (r : Row). r .class) «A_0» (rowOf c) none
+class-at c = List·getD-map (λ (r : Row). r .class) «A_0» (rowOf c) none
 
 pub normal-class : (c : ℕ) → normal c ≡ given c (classOf c)
 unfolding normal classOf rowOf
 normal-class c = refl
 
--- a test of all rows, at the row of a letter
-at-row : (p : Row → Bool) → every p «A_0» ≡ true → (c : ℕ) → rowOf c < 161 → p (rowAt «A_0» (rowOf c)) ≡ true
-at-row p e c h = all-at p «A_0» e (rowOf c) (omega (arith, length-rows))
-
-all-small : every (λ (r : Row). ltb (r .class) 56) «A_0» ≡ true
-unfolding «A_0»
-all-small = refl
-
 pub class-small : (c : ℕ) → classOf c < 56
 unfolding classOf
-class-small c = by-row c (λ h e. ltb-true (rowAt «A_0» (rowOf c) .class) 56 (at-row (λ (r : Row). ltb (r .class) 56) all-small c h)) (λ h e. omega arith)
+class-small c = by-row c (λ h e. small-class (rowAt «A_0» (rowOf c)) (right-row (rowOf c) h)) (λ h e. omega arith)
 
 -- ---- what stands for a letter is longer by a third at most
-
-abbrev fits : Row → Bool
-fits r = leb (3 * length (encode (given (keyOf r) (r .class)))) (4 * length (encode1 (keyOf r)))
-
-all-fit : every fits «A_0» ≡ true
-unfolding «A_0» given gives listedFor encode encode1
-all-fit = refl
 
 pub kept : (c : ℕ) → given c 0 ≡ c ∷ []
 unfolding given
@@ -163,7 +172,7 @@ grows c =
     rw (normal-class c)
     (by-row c
     (λ h e.
-    subst (λ (x : ℕ). 3 * length (encode (given x (rowAt «A_0» (rowOf c) .class))) ≤ 4 * length (encode1 x)) e (leb-true _ _ (at-row fits all-fit c h)))
+    subst (λ (x : ℕ). 3 * length (encode (given x (rowAt «A_0» (rowOf c) .class))) ≤ 4 * length (encode1 x)) e (third-longer (rowAt «A_0» (rowOf c)) (right-row (rowOf c) h)))
     (λ h e. rw (e, kept c, encode-one c) (omega arith)))
 
 pub normalise-grows : (w : Word) → 3 * length (encode (normalise w)) ≤ 4 * length (encode w)

@@ -163,8 +163,8 @@ pub const A_0_KEYS: [u32; 161] = [
     0xFEFC,
 ];
 
-// The class of each row, and 0 behind the last row.
-pub const A_0_CLASSES: [u8; 162] = [
+// The class of each row.
+pub const A_0_CLASSES: [u8; 161] = [
     3,
     3,
     3,
@@ -326,7 +326,6 @@ pub const A_0_CLASSES: [u8; 162] = [
     54,
     52,
     52,
-    0,
 ];
 
 // What each class gives: one letter; two letters, the second times 65536; or 0, where the row is deleted. Class 0 is not read.
