@@ -11,7 +11,7 @@ use Rattle.definition.specs.Kind.{Kind, OPEN, DEFINED, ifOpen}
 use Rattle.definition.proofs.Tried.{first-from}
 use Rattle.snowball.specs.declared.env.Env.{Env}
 use Rattle.snowball.specs.Stands.{Stands}
-use Rattle.arabic.specs.declared.endings.Tried.{Tried}
+use Rattle.arabic.specs.declared.tried.Tried.{Tried}
 use Rattle.arabic.specs.Tried.{Answers}
 use Rattle.arabic.specs.Endings.{atEnd, Ready, Gives, Given}
 use Rattle.arabic.specs.Fronts.{ReadyFront, GivenFront}

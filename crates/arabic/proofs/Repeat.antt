@@ -12,7 +12,7 @@ use Rattle.definition.proofs.Again.{again-turn, again-stop, cut-takes, cut-fail
 use Rattle.utf8.specs.Places.{size}
 use Rattle.utf8.proofs.Places.{size-strict}
 use Rattle.snowball.specs.declared.env.Env.{Env}
-use Rattle.arabic.specs.declared.endings.Tried.{Tried}
+use Rattle.arabic.specs.declared.tried.Tried.{Tried}
 use Rattle.arabic.specs.Endings.{Ends, Ready, Gives}
 
 -- where the loop stands at e, every text that it began with is to be cut as far as one that e stands for

@@ -10,7 +10,7 @@ use Rattle.utf8.specs.Places.{size}
 use Rattle.snowball.specs.declared.env.Env.{Env}
 use Rattle.snowball.specs.Chars.{Chars}
 use Rattle.snowball.specs.Stands.{Stands}
-use Rattle.arabic.specs.declared.endings.Tried.{Tried}
+use Rattle.arabic.specs.declared.tried.Tried.{Tried}
 use Rattle.arabic.specs.Tried.{Answers}
 
 abbrev pub atEnd : Word → Chars

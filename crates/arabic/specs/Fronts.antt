@@ -18,7 +18,7 @@ use Rattle.snowball.specs.Rows.{keys}
 use Rattle.snowball.specs.Cut.{replaced}
 use Rattle.snowball.specs.Chars.{Chars}
 use Rattle.snowball.specs.Stands.{Stands}
-use Rattle.arabic.specs.declared.endings.Tried.{Tried}
+use Rattle.arabic.specs.declared.tried.Tried.{Tried}
 use Rattle.arabic.specs.Tried.{Answers}
 
 -- how many letters are in front of the cursor

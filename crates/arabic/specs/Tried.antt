@@ -2,7 +2,7 @@
 use mathlib.Core.Path.{_≡_}
 use Rattle.definition.specs.Tries.{Try, after, isDone}
 use Rattle.snowball.specs.declared.env.Env.{Env}
-use Rattle.arabic.specs.declared.endings.Tried.{Tried}
+use Rattle.arabic.specs.declared.tried.Tried.{Tried}
 
 -- The code's answer r is the definition's answer y: found says whether the step succeeded, and the environment stands for what it left.
 -- S says what an environment stands for.

@@ -1,6 +1,7 @@
-use crate::endings::Tried;
+// The Rust's context, lent to the two functions that store in it, with a wrapper by value above each.
 use crate::kind::kind_of;
-use crate::prefixes::replace_Prefix_Step4_Verb;
+use crate::prefix_steps::replace_Prefix_Step4_Verb;
+use crate::tried::Tried;
 use snowball::env::Env;
 ghost use mathlib.Core.Path.{_≡_};
 ghost use mathlib.Core.Bool.{true, false};

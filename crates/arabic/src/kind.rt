@@ -1,8 +1,6 @@
-use crate::endings::least_letters;
-use crate::tables::A_3_CLASSES;
-use crate::tables::A_3_LENS;
-use crate::tables::A_3_LINKS;
-use crate::tables::A_3_ROWS;
+// Item 1: the kind of a word, by its front and its number of letters.
+use crate::tables;
+use crate::tried::least_letters;
 use snowball::among::find_among;
 use snowball::env::has_chars;
 ghost use mathlib.Core.Path.{_≡_};
@@ -43,10 +41,10 @@ pub fn kind_of(text: &[u8], limit: usize) -> Kind
         text,
         0,
         limit,
-        &A_3_ROWS,
-        &A_3_LENS,
-        &A_3_LINKS,
-        &A_3_CLASSES,
+        &tables::A_3_ROWS,
+        &tables::A_3_LENS,
+        &tables::A_3_LINKS,
+        &tables::A_3_CLASSES,
     );
     let class = f.class;
     if class == 0 {

@@ -1,14 +1,8 @@
+// Items 2 and 5: the letter loops of r_Normalize_pre and r_Normalize_post.
 use crate::a_0::A_0_CLASSES;
 use crate::a_0::A_0_GIVES;
 use crate::a_0::A_0_KEYS;
-use crate::tables::A_1_CLASSES;
-use crate::tables::A_1_LENS;
-use crate::tables::A_1_LINKS;
-use crate::tables::A_1_ROWS;
-use crate::tables::A_2_CLASSES;
-use crate::tables::A_2_LENS;
-use crate::tables::A_2_LINKS;
-use crate::tables::A_2_ROWS;
+use crate::tables;
 use snowball::among::find_among;
 use snowball::among::find_among_b;
 use snowball::among::wide;
@@ -274,10 +268,10 @@ fn last_of(text: &[u8], cursor: usize, end: usize, c: u32) -> u32
         text,
         end,
         cursor,
-        &A_1_ROWS,
-        &A_1_LENS,
-        &A_1_LINKS,
-        &A_1_CLASSES,
+        &tables::A_1_ROWS,
+        &tables::A_1_LENS,
+        &tables::A_1_LINKS,
+        &tables::A_1_CLASSES,
     );
     let class = f.class;
     match class {
@@ -297,10 +291,10 @@ fn other_of(text: &[u8], cursor: usize, end: usize, c: u32) -> u32
         text,
         cursor,
         end,
-        &A_2_ROWS,
-        &A_2_LENS,
-        &A_2_LINKS,
-        &A_2_CLASSES,
+        &tables::A_2_ROWS,
+        &tables::A_2_LENS,
+        &tables::A_2_LINKS,
+        &tables::A_2_CLASSES,
     );
     let class = f.class;
     match class {

@@ -1,9 +1,10 @@
+// Items 3, 4 and 5 with the cursor put where each begins, and `stem`: all of them, on an environment.
 use crate::context::Context;
 use crate::context::checked;
-use crate::fronts::prefix_steps;
 use crate::normalize::r_Normalize_post;
 use crate::normalize::r_Normalize_pre;
-use crate::suffix_steps::suffix_steps;
+use crate::prefix_nest::prefixes;
+use crate::suffix_nest::suffixes;
 use snowball::env::Env;
 use snowball::env::count_chars;
 ghost use Prim.Native.Nat.{_≤_};
@@ -27,7 +28,7 @@ fn cut_endings(env: Env, b_is_defined: bool) -> Env
     let mut e = env;
     e.limit_backward = e.cursor;
     e.cursor = e.limit;
-    let mut x = suffix_steps(e, b_is_defined);
+    let mut x = suffixes(e, b_is_defined);
     x.cursor = x.limit_backward;
     x
 }
@@ -38,7 +39,7 @@ fn change_front(env: Env, context: Context) -> Env
     ensures { λ r. ⌜ ((w : Word) → Stands env (started w) → Stands r (started (text (fronts (kindOf (context .«b_is_defined»)) w)))) ⌝ }
 {
     let cursor = env.cursor;
-    let t = prefix_steps(env, context);
+    let t = prefixes(env, context);
     let mut x = t.env;
     x.cursor = cursor;
     x

@@ -1,52 +1,222 @@
-use crate::endings::Tried;
-use crate::maqsura::r_Suffix_All_alef_maqsura;
-use crate::noun::noun;
-use crate::verb::verb;
+// The steps of item 3, each under its Rust name: eleven that cut, each a table and its guards by class, and the last 0649.
+use crate::suffix_halves::cut_ending;
+use crate::suffix_halves::ending;
+use crate::tables;
+use crate::tried::Tried;
+use snowball::among::find_among_b;
 use snowball::env::Env;
 ghost use Rattle.definition.specs.Words.{Word};
-ghost use Rattle.definition.specs.Tries.{Try, after, ifFailed};
-ghost use Rattle.definition.specs.Kind.{ifOpen};
-ghost use Rattle.definition.specs.Endings.{Cutting, verb, noun, endings, maqsuraIfFailed};
+ghost use Rattle.definition.specs.Endings.{Cutting, cut, verbStep1, verbStep2a, verbStep2b, verbStep2c, nounStep1a, nounStep1b, nounStep2a, nounStep2b, nounStep2c1, nounStep2c2, nounStep3, suffixAllAlefMaqsura};
 ghost use Rattle.snowball.specs.Stands.{Stands};
-ghost use Rattle.arabic.specs.Endings.{Ends, Ready, Gives, Given, atEnd};
-ghost use Rattle.arabic.specs.Kinds.{kindOf};
+ghost use Rattle.arabic.specs.Endings.{Ends, Ready, Gives, atEnd};
 
-// Item 3 of `stem`.
-
-// If the word is open, the verb.
-fn open_verb(env: Env, b_is_defined: bool) -> Tried
+pub fn r_Suffix_Verb_Step1(env: Env) -> Tried
     requires { ⌜ Ready env ⌝ }
-    ensures { λ r. ⌜ ((v : Cutting) → Ends env v → Gives r (ifOpen (kindOf «b_is_defined») verb v)) ⌝ }
+    ensures { λ r. ⌜ ((v : Cutting) → Ends env v → Gives r (cut verbStep1 v)) ⌝ }
 {
-    if b_is_defined {
-        return Tried { found: false, env };
-    }
-    verb(env)
+    let limit = env.limit;
+    let place = ending(
+        &env.current,
+        limit,
+        &tables::A_17_ROWS,
+        &tables::A_17_LENS,
+        &tables::A_17_LINKS,
+        &tables::A_17_CLASSES,
+        &[4, 5, 6],
+    );
+    cut_ending(env, place)
 }
 
-fn or_noun(t: Tried, b_is_defined: bool) -> Tried
-    requires { ⌜ Given t ⌝ }
-    ensures { λ r. ⌜ ((y : Try Cutting) → Gives t y → Gives r (ifFailed y (noun (kindOf «b_is_defined»)))) ⌝ }
+pub fn r_Suffix_Verb_Step2a(env: Env) -> Tried
+    requires { ⌜ Ready env ⌝ }
+    ensures { λ r. ⌜ ((v : Cutting) → Ends env v → Gives r (cut verbStep2a v)) ⌝ }
 {
-    if t.found {
-        return t;
-    }
-    let x = t.env;
-    noun(x, b_is_defined)
+    let limit = env.limit;
+    let place = ending(
+        &env.current,
+        limit,
+        &tables::A_18_ROWS,
+        &tables::A_18_LENS,
+        &tables::A_18_LINKS,
+        &tables::A_18_CLASSES,
+        &[4, 4, 5, 6, 6],
+    );
+    cut_ending(env, place)
 }
 
-// The verb or the noun, and a last 0649 where both have failed.
-pub fn suffix_steps(env: Env, b_is_defined: bool) -> Env
+pub fn r_Suffix_Verb_Step2b(env: Env) -> Tried
     requires { ⌜ Ready env ⌝ }
-    ensures { λ r. ⌜ ((w : Word) → Stands env (atEnd w)
-        → Stands r (atEnd (maqsuraIfFailed (endings (kindOf «b_is_defined») w) (after (endings (kindOf «b_is_defined») w) .text)))) ⌝ }
+    ensures { λ r. ⌜ ((v : Cutting) → Ends env v → Gives r (cut verbStep2b v)) ⌝ }
 {
-    let a = open_verb(env, b_is_defined);
-    let t = or_noun(a, b_is_defined);
-    let found = t.found;
-    let x = t.env;
-    if found {
-        return x;
+    let limit = env.limit;
+    let place = ending(
+        &env.current,
+        limit,
+        &tables::A_19_ROWS,
+        &tables::A_19_LENS,
+        &tables::A_19_LINKS,
+        &tables::A_19_CLASSES,
+        &[5],
+    );
+    cut_ending(env, place)
+}
+
+pub fn r_Suffix_Verb_Step2c(env: Env) -> Tried
+    requires { ⌜ Ready env ⌝ }
+    ensures { λ r. ⌜ ((v : Cutting) → Ends env v → Gives r (cut verbStep2c v)) ⌝ }
+{
+    let limit = env.limit;
+    let place = ending(
+        &env.current,
+        limit,
+        &tables::A_20_ROWS,
+        &tables::A_20_LENS,
+        &tables::A_20_LINKS,
+        &tables::A_20_CLASSES,
+        &[4, 6],
+    );
+    cut_ending(env, place)
+}
+
+pub fn r_Suffix_Noun_Step1a(env: Env) -> Tried
+    requires { ⌜ Ready env ⌝ }
+    ensures { λ r. ⌜ ((v : Cutting) → Ends env v → Gives r (cut nounStep1a v)) ⌝ }
+{
+    let limit = env.limit;
+    let place = ending(
+        &env.current,
+        limit,
+        &tables::A_10_ROWS,
+        &tables::A_10_LENS,
+        &tables::A_10_LINKS,
+        &tables::A_10_CLASSES,
+        &[4, 5, 6],
+    );
+    cut_ending(env, place)
+}
+
+pub fn r_Suffix_Noun_Step1b(env: Env) -> Tried
+    requires { ⌜ Ready env ⌝ }
+    ensures { λ r. ⌜ ((v : Cutting) → Ends env v → Gives r (cut nounStep1b v)) ⌝ }
+{
+    let limit = env.limit;
+    let place = ending(
+        &env.current,
+        limit,
+        &tables::A_11_ROWS,
+        &tables::A_11_LENS,
+        &tables::A_11_LINKS,
+        &tables::A_11_CLASSES,
+        &[6],
+    );
+    cut_ending(env, place)
+}
+
+pub fn r_Suffix_Noun_Step2a(env: Env) -> Tried
+    requires { ⌜ Ready env ⌝ }
+    ensures { λ r. ⌜ ((v : Cutting) → Ends env v → Gives r (cut nounStep2a v)) ⌝ }
+{
+    let limit = env.limit;
+    let place = ending(
+        &env.current,
+        limit,
+        &tables::A_12_ROWS,
+        &tables::A_12_LENS,
+        &tables::A_12_LINKS,
+        &tables::A_12_CLASSES,
+        &[5],
+    );
+    cut_ending(env, place)
+}
+
+pub fn r_Suffix_Noun_Step2b(env: Env) -> Tried
+    requires { ⌜ Ready env ⌝ }
+    ensures { λ r. ⌜ ((v : Cutting) → Ends env v → Gives r (cut nounStep2b v)) ⌝ }
+{
+    let limit = env.limit;
+    let place = ending(
+        &env.current,
+        limit,
+        &tables::A_13_ROWS,
+        &tables::A_13_LENS,
+        &tables::A_13_LINKS,
+        &tables::A_13_CLASSES,
+        &[5],
+    );
+    cut_ending(env, place)
+}
+
+pub fn r_Suffix_Noun_Step2c1(env: Env) -> Tried
+    requires { ⌜ Ready env ⌝ }
+    ensures { λ r. ⌜ ((v : Cutting) → Ends env v → Gives r (cut nounStep2c1 v)) ⌝ }
+{
+    let limit = env.limit;
+    let place = ending(
+        &env.current,
+        limit,
+        &tables::A_14_ROWS,
+        &tables::A_14_LENS,
+        &tables::A_14_LINKS,
+        &tables::A_14_CLASSES,
+        &[4],
+    );
+    cut_ending(env, place)
+}
+
+pub fn r_Suffix_Noun_Step2c2(env: Env) -> Tried
+    requires { ⌜ Ready env ⌝ }
+    ensures { λ r. ⌜ ((v : Cutting) → Ends env v → Gives r (cut nounStep2c2 v)) ⌝ }
+{
+    let limit = env.limit;
+    let place = ending(
+        &env.current,
+        limit,
+        &tables::A_15_ROWS,
+        &tables::A_15_LENS,
+        &tables::A_15_LINKS,
+        &tables::A_15_CLASSES,
+        &[4],
+    );
+    cut_ending(env, place)
+}
+
+pub fn r_Suffix_Noun_Step3(env: Env) -> Tried
+    requires { ⌜ Ready env ⌝ }
+    ensures { λ r. ⌜ ((v : Cutting) → Ends env v → Gives r (cut nounStep3 v)) ⌝ }
+{
+    let limit = env.limit;
+    let place = ending(
+        &env.current,
+        limit,
+        &tables::A_16_ROWS,
+        &tables::A_16_LENS,
+        &tables::A_16_LINKS,
+        &tables::A_16_CLASSES,
+        &[3],
+    );
+    cut_ending(env, place)
+}
+
+// A last 0649 becomes 064A. The Rust's answer, which its caller does not use, is left out.
+pub fn r_Suffix_All_alef_maqsura(env: Env) -> Env
+    requires { ⌜ Ready env ⌝ }
+    ensures { λ r. ⌜ ((w : Word) → Stands env (atEnd w) → Stands r (atEnd (suffixAllAlefMaqsura w))) ⌝ }
+{
+    let limit = env.limit;
+    let f = find_among_b(
+        &env.current,
+        limit,
+        0,
+        &tables::A_21_ROWS,
+        &tables::A_21_LENS,
+        &tables::A_21_LINKS,
+        &tables::A_21_CLASSES,
+    );
+    if f.class == 0 {
+        return env;
     }
-    r_Suffix_All_alef_maqsura(x)
+    let mut e = env;
+    e.ket = e.cursor;
+    e.bra = f.cursor;
+    e.slice_from(b"\xD9\x8A")
 }

@@ -1,6 +1,5 @@
-use snowball::among::NONE;
-
 // The tables A_1 to A_21 of arabic.rs: of each row the bytes, their number, the link and the class. A_0 has a file of its own.
+use snowball::among::NONE;
 
 pub const A_1_ROWS: [[u8; 6]; 5] = [
     [0xD8, 0xA2, 0, 0, 0, 0],

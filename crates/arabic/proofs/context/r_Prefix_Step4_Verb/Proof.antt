@@ -50,8 +50,8 @@ use Rattle.arabic.proofs.context.Context as T
 use Rattle.arabic.proofs.context.Context.Laws as T′
 use Rattle.arabic.proofs.context.Flagged as S
 use Rattle.arabic.proofs.context.Flagged.Laws as S′
-use Rattle.arabic.proofs.endings.Tried as D
-use Rattle.arabic.proofs.endings.Tried.Laws as D′
+use Rattle.arabic.proofs.tried.Tried as D
+use Rattle.arabic.proofs.tried.Tried.Laws as D′
 use Rattle.arabic.proofs.context.flagged_Prefix_Step4_Verb as step
 use Rattle.arabic.proofs.context.flagged_Prefix_Step4_Verb.Symbol as step-def
 use Rattle.arabic.proofs.context.flagged_Prefix_Step4_Verb.Symbol.{name as #step}

@@ -43,14 +43,14 @@ use Rattle.arabic.specs.Contexts.{madeVerb}
 use Rattle.arabic.specs.Fronts.{Fronts, ReadyFront, GivesFront}
 use Rattle.arabic.specs.declared.context.Context.{Context}
 use Rattle.arabic.specs.declared.context.Stepped.{Stepped}
-use Rattle.arabic.specs.declared.endings.Tried.{Tried}
+use Rattle.arabic.specs.declared.tried.Tried.{Tried}
 use Rattle.arabic.proofs.Lending.{mach, lies-in, lies-out}
 use Rattle.arabic.proofs.context.Context as T
 use Rattle.arabic.proofs.context.Context.Laws as T′
 use Rattle.arabic.proofs.context.Stepped as S
 use Rattle.arabic.proofs.context.Stepped.Laws as S′
-use Rattle.arabic.proofs.endings.Tried as D
-use Rattle.arabic.proofs.endings.Tried.Laws as D′
+use Rattle.arabic.proofs.tried.Tried as D
+use Rattle.arabic.proofs.tried.Tried.Laws as D′
 use Rattle.arabic.proofs.context.r_Prefix_Step4_Verb as verb
 use Rattle.arabic.proofs.context.r_Prefix_Step4_Verb.Symbol as verb-def
 use Rattle.arabic.proofs.context.r_Prefix_Step4_Verb.Symbol.{name as #verb}

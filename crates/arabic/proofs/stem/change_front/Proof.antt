@@ -7,15 +7,15 @@ use Rattle.arabic.proofs.Items.{at-start, back-to}
 use Rattle.arabic.proofs.stem.change_front.Statement.{statement}
 use Rattle.arabic.proofs.stem.change_front.Tie as tie
 
-prefix-steps-requires : tie.Need-prefix-steps-requires
-prefix-steps-requires c κs = (c .pre .0, at-start (c .args .env) (c .pre .0) (c .pre .1))
+prefixes-requires : tie.Need-prefixes-requires
+prefixes-requires c κs = (c .pre .0, at-start (c .args .env) (c .pre .0) (c .pre .1))
 
 returns : tie.Need-returns
 unfolding fronts
 returns c =
     let p = c .before in
     let a = p .before .args in
-    λ w st. back-to (a .env) (p .prefix-steps .result .env) w (after (prefixSteps (kindOf (a .context .«b_is_defined»)) (definition.started w))) st (p .prefix-steps .ensures w (at-start (a .env) w st) .env)
+    λ w st. back-to (a .env) (p .prefixes .result .env) w (after (prefixSteps (kindOf (a .context .«b_is_defined»)) (definition.started w))) st (p .prefixes .ensures w (at-start (a .env) w st) .env)
 
 pub change-front-spec : {M : Type 1} → statement M
-change-front-spec = tie.close (tie.spec prefix-steps-requires returns)
+change-front-spec = tie.close (tie.spec prefixes-requires returns)

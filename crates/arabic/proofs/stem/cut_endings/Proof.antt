@@ -4,11 +4,11 @@ use Rattle.arabic.proofs.Items.{to-end, to-front}
 use Rattle.arabic.proofs.stem.cut_endings.Statement.{statement}
 use Rattle.arabic.proofs.stem.cut_endings.Tie as tie
 
-suffix-steps-requires : tie.Need-suffix-steps-requires
-suffix-steps-requires c κs = (uncut (c .pre .0), to-end (c .args .env) (c .pre .0) (c .pre .1))
+suffixes-requires : tie.Need-suffixes-requires
+suffixes-requires c κs = (uncut (c .pre .0), to-end (c .args .env) (c .pre .0) (c .pre .1))
 
 returns : tie.Need-returns
-returns c = λ w st. to-front (c .suffix-steps .result) _ (c .suffix-steps .ensures w (to-end (c .before .args .env) w st))
+returns c = λ w st. to-front (c .suffixes .result) _ (c .suffixes .ensures w (to-end (c .before .args .env) w st))
 
 pub cut-endings-spec : {M : Type 1} → statement M
-cut-endings-spec = tie.close (tie.spec suffix-steps-requires returns)
+cut-endings-spec = tie.close (tie.spec suffixes-requires returns)

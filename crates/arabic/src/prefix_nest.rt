@@ -1,0 +1,51 @@
+// Item 4 whole: Step1, Step2, and then the first of three alternatives.
+use crate::context::Context;
+use crate::context::step4_verb;
+use crate::prefix_steps::r_Prefix_Step1;
+use crate::prefix_steps::r_Prefix_Step2;
+use crate::prefix_steps::r_Prefix_Step3_Verb;
+use crate::prefix_steps::r_Prefix_Step3a_Noun;
+use crate::prefix_steps::r_Prefix_Step3b_Noun;
+use crate::tried::Tried;
+use snowball::env::Env;
+ghost use Rattle.definition.specs.Words.{Word};
+ghost use Rattle.definition.specs.Fronts.{Fronting, prefixSteps, started};
+ghost use Rattle.arabic.specs.Fronts.{Fronts, ReadyFront, ReadyStart, GivesFront};
+ghost use Rattle.arabic.specs.Kinds.{kindOf};
+ghost use Rattle.arabic.specs.Nests.{verbSteps};
+
+// Step3_Verb, whether it succeeds or not, and then Step4_Verb where the cursor stands.
+fn verb_steps(env: Env, context: Context) -> Tried
+    requires { ⌜ ReadyFront env ⌝ }
+    ensures { λ r. ⌜ ((w : Fronting) → Fronts env w → GivesFront r (verbSteps w)) ⌝ }
+{
+    let a = r_Prefix_Step3_Verb(env);
+    let x = a.env;
+    let s = step4_verb(x, context);
+    s.tried
+}
+
+// Step1, Step2, and then the first of three alternatives; the last is for open words alone.
+pub fn prefixes(env: Env, context: Context) -> Tried
+    requires { ⌜ ReadyStart env ⌝ }
+    ensures { λ r. ⌜ ((w : Word) → Fronts env (started w) → GivesFront r (prefixSteps (kindOf (context .«b_is_defined»)) (started w))) ⌝ }
+{
+    let a = r_Prefix_Step1(env);
+    let x = a.env;
+    let b = r_Prefix_Step2(x);
+    let y = b.env;
+    let c = r_Prefix_Step3a_Noun(y);
+    if c.found {
+        return c;
+    }
+    let z = c.env;
+    let d = r_Prefix_Step3b_Noun(z);
+    if d.found {
+        return d;
+    }
+    if context.b_is_defined {
+        return d;
+    }
+    let u = d.env;
+    verb_steps(u, context)
+}

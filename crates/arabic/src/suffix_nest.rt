@@ -1,0 +1,51 @@
+// Item 3 whole: the verb, else the noun, else a last 0649.
+use crate::noun_nest::noun;
+use crate::suffix_steps::r_Suffix_All_alef_maqsura;
+use crate::tried::Tried;
+use crate::verb_nest::verb;
+use snowball::env::Env;
+ghost use Rattle.definition.specs.Words.{Word};
+ghost use Rattle.definition.specs.Tries.{Try, after, ifFailed};
+ghost use Rattle.definition.specs.Kind.{ifOpen};
+ghost use Rattle.definition.specs.Endings.{Cutting, verb, noun, endings, maqsuraIfFailed};
+ghost use Rattle.snowball.specs.Stands.{Stands};
+ghost use Rattle.arabic.specs.Endings.{Ends, Ready, Gives, Given, atEnd};
+ghost use Rattle.arabic.specs.Kinds.{kindOf};
+
+// If the word is open, the verb.
+fn open_verb(env: Env, b_is_defined: bool) -> Tried
+    requires { ⌜ Ready env ⌝ }
+    ensures { λ r. ⌜ ((v : Cutting) → Ends env v → Gives r (ifOpen (kindOf «b_is_defined») verb v)) ⌝ }
+{
+    if b_is_defined {
+        return Tried { found: false, env };
+    }
+    verb(env)
+}
+
+fn or_noun(t: Tried, b_is_defined: bool) -> Tried
+    requires { ⌜ Given t ⌝ }
+    ensures { λ r. ⌜ ((y : Try Cutting) → Gives t y → Gives r (ifFailed y (noun (kindOf «b_is_defined»)))) ⌝ }
+{
+    if t.found {
+        return t;
+    }
+    let x = t.env;
+    noun(x, b_is_defined)
+}
+
+// The verb or the noun, and a last 0649 where both have failed.
+pub fn suffixes(env: Env, b_is_defined: bool) -> Env
+    requires { ⌜ Ready env ⌝ }
+    ensures { λ r. ⌜ ((w : Word) → Stands env (atEnd w)
+        → Stands r (atEnd (maqsuraIfFailed (endings (kindOf «b_is_defined») w) (after (endings (kindOf «b_is_defined») w) .text)))) ⌝ }
+{
+    let a = open_verb(env, b_is_defined);
+    let t = or_noun(a, b_is_defined);
+    let found = t.found;
+    let x = t.env;
+    if found {
+        return x;
+    }
+    r_Suffix_All_alef_maqsura(x)
+}

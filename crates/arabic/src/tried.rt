@@ -1,0 +1,42 @@
+// What several steps use: a step's answer, the least number of letters by class, and the alternative that always succeeds.
+use snowball::among::wide;
+use snowball::env::Env;
+ghost use mathlib.Core.Path.{_≡_};
+ghost use mathlib.Core.Bool.{true};
+ghost use Rattle.definition.specs.Search.{leastLetters};
+ghost use Rattle.definition.specs.Tries.{Try, ifFailed, nothing};
+ghost use Rattle.definition.specs.Endings.{Cutting};
+ghost use Rattle.arabic.specs.Endings.{Gives, Given};
+
+// The environment after a step, and whether the step succeeded.
+pub struct Tried {
+    pub found: bool,
+    pub env: Env,
+}
+
+// The least number of letters for a class, from class 1 on; 0 for a class that has none.
+pub fn least_letters(guards: &[u8], class: u8) -> usize
+    ensures { λ r. ⌜ r ≡ leastLetters (now (guards .entry)) class ⌝ }
+{
+    if class == 0 {
+        return 0;
+    }
+    let k = wide(class - 1);
+    if k >= guards.len() {
+        return 0;
+    }
+    wide(guards[k])
+}
+
+// The last alternative, which always succeeds: the noun's `none`, and in place of the Rust's `next` behind the verb's Step1
+// and the noun's Step1a (docs/DECISIONS.md, 18).
+pub fn or_nothing(t: Tried) -> Tried
+    requires { ⌜ Given t ⌝ }
+    ensures { λ r. ⌜ (r .found ≡ true) × ((y : Try Cutting) → Gives t y → Gives r (ifFailed y nothing)) ⌝ }
+{
+    let x = t.env;
+    Tried {
+        found: true,
+        env: x,
+    }
+}
