@@ -16,6 +16,7 @@ use Rattle.definition.specs.Search.{rowAt, longer, longest}
 use Rattle.definition.specs.Finish.{last, other, finish}
 use Rattle.definition.proofs.Main.{main-last, main-other}
 use Rattle.definition.proofs.Stays.{other-stays}
+use Rattle.definition.proofs.Finish.{other-last}
 use Rattle.definition.proofs.Match.{by}
 use Rattle.arabic.specs.Texts.{changed}
 use Rattle.arabic.proofs.Reading.{scalar-top}
@@ -132,11 +133,11 @@ changed-top t c s = scalar-top (changed t c) (changed-scalar t c s)
 pub finish-size : (w : Word) → length (encode (finish w)) ≡ length (encode w)
 unfolding finish
 finish-size [] = refl
-finish-size (c ∷ []) = omega (arith, cons-size (last c) [], cons-size c [], changed-size true c)
+finish-size (c ∷ []) = rw (other-last c) (omega (arith, cons-size (last c) [], cons-size c [], changed-size true c))
 finish-size (c ∷ d ∷ w) = omega (arith, cons-size (other c) (finish (d ∷ w)), cons-size c (d ∷ w), changed-size false c, finish-size (d ∷ w))
 
 pub finish-scalars : (w : Word) → Scalars w → Scalars (finish w)
 unfolding finish
 finish-scalars [] s = tt
-finish-scalars (c ∷ []) s = (changed-scalar true c (s .0), tt)
+finish-scalars (c ∷ []) s = (rw (other-last c) (changed-scalar true c (s .0)), tt)
 finish-scalars (c ∷ d ∷ w) s = (changed-scalar false c (s .0), finish-scalars (d ∷ w) (s .1))

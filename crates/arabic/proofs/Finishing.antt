@@ -11,6 +11,7 @@ use Rattle.utf8.specs.Utf8.{encode1, encode}
 use Rattle.utf8.proofs.Text.{encode1-pos, encode-injective}
 use Rattle.definition.specs.Words.{Word}
 use Rattle.definition.specs.Finish.{finish}
+use Rattle.definition.proofs.Finish.{other-last}
 use Rattle.definition.proofs.Match.{empty}
 use Rattle.snowball.specs.Search.{between}
 use Rattle.arabic.specs.Bytes.{Encodes, LetterFrom, SomeLetter, Read, Wrote}
@@ -48,7 +49,7 @@ start text limit turns cs h z e l =
 finish-step : (c : ℕ) (t : Word) (j limit : ℕ) → j + length (encode t) ≡ limit
     → encode (finish (c ∷ t)) ≡ encode1 (changed (eqb j limit) c) ++ encode (finish t)
 unfolding finish encode
-finish-step c [] j limit e = rw (eq-eqb j limit (omega arith)) refl
+finish-step c [] j limit e = rw (eq-eqb j limit (omega arith), other-last c) refl
 finish-step c (d ∷ t) j limit e = rw (ne-eqb j limit (λ (q : j ≡ limit). omega (arith, cons-size d t, encode1-pos d))) refl
 
 module _ {old : List ℕ} {limit turns : ℕ} {text : List ℕ} {i k : ℕ} (v : Inv old limit turns text i k) where

@@ -42,7 +42,7 @@ ready4 c = let r = ready3 (c .before .before .before) in ready (c .open-Step2a .
 -- r is the answer of all alternatives where it is that of the later ones, and the earlier ones have failed
 past1 : (c : tie.After-x) (r : Tried) → ((u : Cutting) → Ends (c .before .before .r-Suffix-Noun-Step2c2 .result .env) u → Gives r (firstOf (rest1 (kindOf (c .before .before .before .args .b-is-defined))) u))
     → (v : Cutting) → Ends (c .before .before .before .args .env) v → Gives r (nounFirst (kindOf (c .before .before .before .args .b-is-defined)) v)
-unfolding nounFirst firstOf
+unfolding nounFirst byStep1a firstOf
 past1 c r f v st =
     let a = c .before .before in
     or-no (a .r-Suffix-Noun-Step2c2 .result) r (firstOf (rest1 (kindOf (a .before .args .b-is-defined)))) (c .before .if1 .left) f (cut nounStep2c2 v) (a .r-Suffix-Noun-Step2c2 .ensures v st)
@@ -77,7 +77,7 @@ r-Suffix-Noun-Step2c2-requires : tie.Need-r-Suffix-Noun-Step2c2-requires
 r-Suffix-Noun-Step2c2-requires c κs = search needs
 
 returns : tie.Need-returns
-unfolding nounFirst firstOf
+unfolding nounFirst byStep1a firstOf
 returns c =
     let a = c .before in
     let k = kindOf (a .before .args .b-is-defined) in
