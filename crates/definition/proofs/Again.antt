@@ -10,10 +10,10 @@ use Rattle.definition.specs.Words.{Word, endsWith}
 use Rattle.definition.specs.Search.{rowAt, taken}
 use Rattle.definition.specs.Tries.{done, after, isDone, whileDone, again}
 use Rattle.definition.specs.Endings.{SuffixStep, suffix, Cutting, ending, cutOff, cutBy, cut}
+use Rattle.definition.specs.Facts.{Idle}
 use Rattle.definition.proofs.Match.{ends-split}
 use Rattle.definition.proofs.Found.{taken-some}
 use Rattle.definition.proofs.Cutting.{row-some}
-use Rattle.definition.proofs.Step1a.{Idle}
 
 abbrev search : SuffixStep → Cutting → Option ℕ
 search s v = taken (endsWith (v .text)) (suffix s) (length (v .text))

@@ -12,15 +12,12 @@ use borrow.Author.Tests.{leb-true, leb-false}
 use Rattle.definition.specs.Words.{Word, pick, every}
 use Rattle.definition.specs.Tables.{Row, Table}
 use Rattle.definition.specs.Search.{rowAt, longer, longest, Rule, leastLetters, met, taken}
+use Rattle.definition.specs.Facts.{Longest}
 use Rattle.definition.proofs.Match.{both-0, both-1}
 
 -- r is a row that matches, or stands behind all rows
 abbrev pub Found : (Word → Bool) → Table → ℕ → Type 0
 Found match t r = ((r < length t) × (match (rowAt t r .letters) ≡ true)) ⊎ (r ≡ length t)
-
--- no row that matches is longer than r
-abbrev pub Longest : (Word → Bool) → Table → ℕ → Type 0
-Longest match t r = (i : ℕ) → i < length t → match (rowAt t i .letters) ≡ true → length (rowAt t i .letters) ≤ length (rowAt t r .letters)
 
 module _ (match : Word → Bool) (k : Row) (t : Table) (r : ℕ) where
   found-next : Found match t r → Found match (k ∷ t) (suc r)

@@ -15,18 +15,18 @@ use Rattle.definition.specs.Endings.{SuffixStep, Cutting, cut, suffixAll
 use Rattle.definition.specs.Finish.{last, other, finish}
 use Rattle.definition.specs.Stem.{cutting, stem}
 use Rattle.definition.specs.Demand3.{Demand3}
+use Rattle.definition.specs.Facts.{Longest, distinct, allTables, replaced, Idle, AllSteps, notStep1a, AllCuts, NotNoonAlef, cutWord}
 use Rattle.definition.specs.Examples.{computed, twelve, work, examples}
 use Rattle.definition.specs.Listed.{EveryClassListed}
 use Rattle.definition.proofs.Examples.{examples-right}
 use Rattle.definition.proofs.Finish.{finish-all}
 use Rattle.definition.proofs.Listed.{every-class-listed}
-use Rattle.definition.proofs.Rows.{replaced, last-rows, other-rows, maqsura-row}
-use Rattle.definition.proofs.Found.{Longest}
-use Rattle.definition.proofs.Unique.{distinct, rigid-front, rigid-end, longest-is, allTables, distinct-all}
-use Rattle.definition.proofs.Step1a.{Idle, AllSteps, notStep1a, no-step1a}
+use Rattle.definition.proofs.Rows.{last-rows, other-rows, maqsura-row}
+use Rattle.definition.proofs.Unique.{rigid-front, rigid-end, longest-is, distinct-all}
+use Rattle.definition.proofs.Step1a.{no-step1a}
 use Rattle.definition.proofs.Again.{again-ends}
-use Rattle.definition.proofs.NoonAlef.{AllCuts, NotNoonAlef, no-noon-alef}
-use Rattle.definition.proofs.Only.{demand3-only, cutWord, no-cuts}
+use Rattle.definition.proofs.NoonAlef.{no-noon-alef}
+use Rattle.definition.proofs.Only.{demand3-only, no-cuts}
 use Rattle.definition.proofs.Demand3.{demand3}
 
 -- demand 3 holds of every word and its stem

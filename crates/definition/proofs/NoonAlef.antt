@@ -1,7 +1,7 @@
 -- The row 0646 0627 of A_18 cuts in no word: where the verb's Step2a is tried, Step1 takes no row, and it would take this one. Assumes nothing.
 use mathlib.Core.Path.{_≡_, refl, sym, subst}
 use mathlib.Core.Bool.{true}
-use mathlib.Core.List.{List, [], _∷_}
+use mathlib.Core.List.{[], _∷_}
 use mathlib.Core.Option.{Option, none, some}
 use Prim.Native.Nat.{ℕ, _<_}
 use native.Mathlib.Omega.{arith}
@@ -12,36 +12,14 @@ use Rattle.definition.specs.Tables.{«A_17», «A_18»}
 use Rattle.definition.specs.Search.{longer, longest, taken}
 use Rattle.definition.specs.Tries.{Try, nothing, _thenTry_, firstOf, again}
 use Rattle.definition.specs.Kind.{Kind, ifOpen}
-use Rattle.definition.specs.Endings.{SuffixStep, verbStep1, verbStep2a, verbStep2b, verbStep2c, nounStep1a, nounStep1b, nounStep2a, nounStep2b, nounStep2c1, nounStep2c2, nounStep3, suffix, Cut, Cutting, cutOff, cutBy, cut, afterVerbStep1, verb, noun, endings}
+use Rattle.definition.specs.Endings.{SuffixStep, verbStep1, verbStep2a, verbStep2b, verbStep2c, nounStep1a, nounStep1b, nounStep2a, nounStep2b, nounStep2c1, nounStep2c2, nounStep3, suffix, Cutting, cutOff, cutBy, cut, afterVerbStep1, verb, noun, endings}
 use Rattle.definition.specs.Stem.{cutting}
+use Rattle.definition.specs.Facts.{Idle, AllCuts, noonAlef, NotNoonAlef}
 use Rattle.definition.proofs.Found.{taken-some}
 use Rattle.definition.proofs.Triples.{Ends, Does, Keeps, ends-after, weaker, does-then, does-or, does-last, does-again, keeps-first, keeps-if}
 use Rattle.definition.proofs.Cutting.{Nominal, noun-keeps}
 use Rattle.definition.proofs.Cover.{covers, cover}
-use Rattle.definition.proofs.Step1a.{Idle}
 use Rattle.definition.proofs.Again.{shorter, again-ends}
-
--- the row's number in A_18
-abbrev noonAlef : ℕ
-noonAlef = 8
-
--- a cut by another row or another step
-abbrev pub NotNoonAlef : SuffixStep → ℕ → Type 0
-NotNoonAlef verbStep1 r = Unit {0}
-NotNoonAlef verbStep2a r = r ≡ noonAlef → ⊥
-NotNoonAlef verbStep2b r = Unit {0}
-NotNoonAlef verbStep2c r = Unit {0}
-NotNoonAlef nounStep1a r = Unit {0}
-NotNoonAlef nounStep1b r = Unit {0}
-NotNoonAlef nounStep2a r = Unit {0}
-NotNoonAlef nounStep2b r = Unit {0}
-NotNoonAlef nounStep2c1 r = Unit {0}
-NotNoonAlef nounStep2c2 r = Unit {0}
-NotNoonAlef nounStep3 r = Unit {0}
-
-abbrev pub AllCuts : (SuffixStep → ℕ → Type 0) → List Cut → Type 0
-AllCuts P [] = Unit {0}
-AllCuts P (c ∷ cs) = P (c .step) (c .row) × AllCuts P cs
 
 abbrev Spared : Cutting → Type 0
 Spared v = AllCuts NotNoonAlef (v .cuts)

@@ -8,7 +8,7 @@ use native.Mathlib.Omega.{arith}
 use native.Mathlib.Decide.{ℕ-discrete}
 use lib.ListN.{length, getD}
 use lib.Seq.{ext-getD}
-use Rattle.definition.specs.Letters.{alef, beh, teh, kaf, heh}
+use Rattle.definition.specs.Letters.{beh, teh, kaf}
 use Rattle.definition.specs.Words.{Word, same, beginsWith}
 use Rattle.definition.specs.Tables.{«A_0»}
 use Rattle.definition.specs.Search.{longer, longest}
@@ -20,6 +20,7 @@ use Rattle.definition.specs.Fronts.{prefixStep4Verb}
 use Rattle.definition.specs.Finish.{last, other, finish}
 use Rattle.definition.specs.Stem.{stem, applied, headLetter, run}
 use Rattle.definition.specs.Demand3.{Change, isApplied, place, Demand3}
+use Rattle.definition.specs.Facts.{cutWord}
 use Rattle.definition.specs.Examples.{Worked, work, examples}
 use Rattle.definition.proofs.Examples.{examples-right}
 use Rattle.definition.proofs.OneChange.{change-one}
@@ -44,9 +45,6 @@ demand3-only w s d =
     (subst (λ (m : ℕ). Change (suc i ≡ m) T (F i) (c i) (getD (stem w) i 0)) (sym long) (one .changes i (omega arith))))
 
 -- ---- the first worked example, of which two endings are cut
-abbrev pub cutWord : Word
-cutWord = kaf ∷ teh ∷ beh ∷ teh ∷ heh ∷ alef ∷ []
-
 abbrev firstStem : List Worked → Word
 firstStem [] = []
 firstStem (e ∷ es) = e .stem

@@ -1,23 +1,19 @@
 -- The letters that items 3 and 5 name in words are the rows of A_21, A_1 and A_2, with what the Rust's steps put for each class. Assumes nothing.
 use mathlib.Core.Path.{_≡_, refl, sym, subst}
 use mathlib.Core.Bool.{true}
-use mathlib.Core.List.{List, [], _∷_}
+use mathlib.Core.List.{[], _∷_}
 use Prim.Native.Nat.{ℕ}
 use lib.Dec.{eqb}
-use lib.ListN.{getD}
 use borrow.Author.Tests.{eqb-true, eqb-false}
 use Rattle.definition.specs.Letters.{hamza, alefMadda, alefHamzaAbove, wawHamza, alefHamzaBelow, yehHamza, alef, waw, alefMaksura, yeh}
 use Rattle.definition.specs.Words.{same, beginsWith}
-use Rattle.definition.specs.Tables.{Table, «A_1», «A_2», «A_21»}
-use Rattle.definition.specs.Search.{rowAt, longer, longest}
+use Rattle.definition.specs.Tables.{«A_1», «A_2», «A_21»}
+use Rattle.definition.specs.Search.{longer, longest}
 use Rattle.definition.specs.Endings.{suffixAllAlefMaqsura}
 use Rattle.definition.specs.Finish.{last, other}
+use Rattle.definition.specs.Facts.{replaced}
 use Rattle.definition.proofs.Match.{by}
 use Rattle.definition.proofs.Stays.{last-stays}
-
--- the letter c, or what its row's class gives
-abbrev pub replaced : Table → List ℕ → ℕ → ℕ
-replaced t letters c = getD (c ∷ letters) (rowAt t (longest (beginsWith (c ∷ [])) t) .class) c
 
 -- two functions that agree at k agree at c, where c is k
 agree-at : (f g : ℕ → ℕ) (c k : ℕ) → f k ≡ g k → eqb c k ≡ true → f c ≡ g c

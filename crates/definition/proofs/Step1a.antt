@@ -10,16 +10,13 @@ use Rattle.definition.specs.Tables.{Row, «A_10», «A_17», «A_18»}
 use Rattle.definition.specs.Search.{rowAt, longer, longest, leastLetters, taken}
 use Rattle.definition.specs.Tries.{Step, nothing, _thenTry_, inTurn, firstOf, again}
 use Rattle.definition.specs.Kind.{Kind, OPEN, DEFINED, ifOpen}
-use Rattle.definition.specs.Endings.{SuffixStep, verbStep1, verbStep2a, verbStep2b, verbStep2c, nounStep1a, nounStep1b, nounStep2a, nounStep2b, nounStep2c1, nounStep2c2, nounStep3, suffix, Cut, Cutting, cutOff, cutBy, cut, afterVerbStep1, afterNounStep1b, nounStep1bInTurn, verb, noun, endings}
+use Rattle.definition.specs.Endings.{SuffixStep, verbStep1, verbStep2a, verbStep2b, verbStep2c, nounStep1a, nounStep1b, nounStep2a, nounStep2b, nounStep2c1, nounStep2c2, nounStep3, suffix, Cutting, cutOff, cutBy, cut, afterVerbStep1, afterNounStep1b, nounStep1bInTurn, verb, noun, endings}
 use Rattle.definition.specs.Stem.{cutting}
+use Rattle.definition.specs.Facts.{Idle, AllSteps, notStep1a}
 use Rattle.definition.proofs.Match.{by}
 use Rattle.definition.proofs.Found.{taken-some, all-at}
 use Rattle.definition.proofs.Triples.{Ends, Does, Keeps, ends-after, weaker, does-then, does-or, does-last, does-again, keeps-first, keeps-then, keeps-if}
 use Rattle.definition.proofs.Cover.{covers, cover}
-
--- the step takes no row
-abbrev pub Idle : SuffixStep → Cutting → Type 0
-Idle s v = taken (endsWith (v .text)) (suffix s) (length (v .text)) ≡ none
 
 -- ---- each row of Step1a is taken by the verb's Step1 or by its Step2a
 abbrev pub coveredRow : SuffixStep → Row → Bool
@@ -46,23 +43,6 @@ idle-by s v c one two = go (taken (endsWith (v .text)) (suffix s) (length (v .te
         (λ t. cover (suffix verbStep2a) (v .text) (k .letters) g (length (v .text)) (rw t at cr) (tk .matches) (tk .enough) two))
 
 -- ---- no cut by Step1a
-abbrev pub notStep1a : SuffixStep → Type 0
-notStep1a verbStep1 = Unit {0}
-notStep1a verbStep2a = Unit {0}
-notStep1a verbStep2b = Unit {0}
-notStep1a verbStep2c = Unit {0}
-notStep1a nounStep1a = ⊥
-notStep1a nounStep1b = Unit {0}
-notStep1a nounStep2a = Unit {0}
-notStep1a nounStep2b = Unit {0}
-notStep1a nounStep2c1 = Unit {0}
-notStep1a nounStep2c2 = Unit {0}
-notStep1a nounStep3 = Unit {0}
-
-abbrev pub AllSteps : (SuffixStep → Type 0) → List Cut → Type 0
-AllSteps P [] = Unit {0}
-AllSteps P (c ∷ cs) = P (c .step) × AllSteps P cs
-
 abbrev pub Spared : Cutting → Type 0
 Spared v = AllSteps notStep1a (v .cuts)
 

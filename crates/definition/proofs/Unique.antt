@@ -2,22 +2,18 @@
 use mathlib.Core.Path.{_≡_, refl, sym, ap, _∙_}
 use mathlib.Core.Bool.{Bool, true, false≢true, not}
 use mathlib.Core.Logic.{inl, inr}
-use mathlib.Core.List.{List, [], _∷_}
+use mathlib.Core.List.{[], _∷_}
 use Prim.Native.Nat.{ℕ, zero, suc, _-_, _≤_, _<_}
 use native.Mathlib.Omega.{arith}
 use lib.Dec.{leb}
 use lib.ListN.{length, take, drop}
 use borrow.Author.Tests.{leb-true, le-leb, lt-leb, not-true}
-use Rattle.definition.specs.Words.{Word, pick, both, every, same, beginsWith, endsWith}
+use Rattle.definition.specs.Words.{Word, pick, every, same, beginsWith, endsWith}
 use Rattle.definition.specs.Tables.{Row, Table, «A_0», «A_1», «A_2», «A_3», «A_4», «A_5», «A_6», «A_7», «A_8», «A_9», «A_10», «A_11», «A_12», «A_13», «A_14», «A_15», «A_16», «A_17», «A_18», «A_19», «A_20», «A_21»}
 use Rattle.definition.specs.Search.{rowAt, longer, longest}
+use Rattle.definition.specs.Facts.{Longest, distinct, allTables}
 use Rattle.definition.proofs.Match.{both-0, both-1, by, same-eq, same-refl}
-use Rattle.definition.proofs.Found.{Found, Longest, all-at, longest-found, longest-longest, no-letters}
-
--- every row has a letter, and no two rows are the same
-abbrev pub distinct : Table → Bool
-distinct [] = true
-distinct (k ∷ t) = both (leb 1 (length (k .letters))) (both (every (λ (j : Row). not (same (k .letters) (j .letters))) t) (distinct t))
+use Rattle.definition.proofs.Found.{Found, all-at, longest-found, longest-longest, no-letters}
 
 distinct-tail : (k : Row) (t : Table) → distinct (k ∷ t) ≡ true → distinct t ≡ true
 distinct-tail k t d = both-1 (every (λ (j : Row). not (same (k .letters) (j .letters))) t) (distinct t) (both-1 (leb 1 (length (k .letters))) _ d)
@@ -98,11 +94,6 @@ longest-at match (k ∷ t) (suc r) h m a l =
     (λ b. ap (λ (x : Bool). longer x k t r) b)
 
 -- all tables pass the test
-abbrev pub allTables : List Table
-allTables =
-    «A_0» ∷ «A_1» ∷ «A_2» ∷ «A_3» ∷ «A_4» ∷ «A_5» ∷ «A_6» ∷ «A_7» ∷ «A_8» ∷ «A_9» ∷ «A_10»
-    ∷ «A_11» ∷ «A_12» ∷ «A_13» ∷ «A_14» ∷ «A_15» ∷ «A_16» ∷ «A_17» ∷ «A_18» ∷ «A_19» ∷ «A_20» ∷ «A_21» ∷ []
-
 pub distinct-all : every distinct allTables ≡ true
 unfolding «A_0» «A_1» «A_2» «A_3» «A_4» «A_5» «A_6» «A_7» «A_8» «A_9» «A_10» «A_11» «A_12» «A_13» «A_14» «A_15» «A_16» «A_17» «A_18» «A_19» «A_20» «A_21» same
 distinct-all = refl

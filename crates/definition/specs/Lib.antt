@@ -12,3 +12,4 @@ pub mod Stem
 pub mod Listed
 pub mod Examples
 pub mod Demand3
+pub mod Facts

@@ -11,10 +11,10 @@ use Rattle.definition.specs.Tables.{Row, Table}
 use Rattle.definition.specs.Search.{rowAt, taken}
 use Rattle.definition.specs.Tries.{done, failed}
 use Rattle.definition.specs.Endings.{SuffixStep, suffix, Cutting, cutOff, cutBy, cut}
+use Rattle.definition.specs.Facts.{Idle}
 use Rattle.definition.proofs.Match.{clash}
 use Rattle.definition.proofs.Found.{taken-some, all-at}
 use Rattle.definition.proofs.Cover.{compatible, fits}
-use Rattle.definition.proofs.Step1a.{Idle}
 use Rattle.order.proofs.Exchange.{Fails, Clean}
 
 -- no row of the one table can be an end of one word with a row of the other

@@ -2,7 +2,7 @@
 use mathlib.Core.Path.{_≡_, refl, sym, ap, _∙_, subst}
 use mathlib.Core.Bool.{Bool, true, false, not}
 use mathlib.Core.Logic.{_⊎_, inl, inr}
-use mathlib.Core.List.{List, [], _∷_, _++_}
+use mathlib.Core.List.{[], _∷_, _++_}
 use mathlib.Core.Option.{Option, none, some}
 use Prim.Native.Nat.{ℕ, zero, suc, _≤_, _<_, min}
 use native.Mathlib.Omega.{arith}
@@ -16,11 +16,12 @@ use Rattle.definition.specs.Tries.{Step, Try, done, failed, after, _thenTry_, i
 use Rattle.definition.specs.Kind.{Kind, OPEN, DEFINED, kindBy, ifOpen, kind}
 use Rattle.definition.specs.Normal.{gives, listedFor, given, normal, normalise}
 use Rattle.definition.specs.Endings.{Cutting, endings, suffixAllAlefMaqsura, maqsuraIfFailed}
-use Rattle.definition.specs.Fronts.{PrefixStep, prefixStep1, prefixStep2, prefixStep3aNoun, prefixStep3bNoun, prefixStep3Verb, prefixStep4Verb, prefix, notAt, Applied, at, Fronting, change, beginsWithAny, apply, prefixStep3VerbInTurn, prefixSteps, started, fronts}
+use Rattle.definition.specs.Fronts.{PrefixStep, prefixStep1, prefixStep2, prefixStep3aNoun, prefixStep3bNoun, prefix, notAt, at, Fronting, change, beginsWithAny, apply, prefixStep3VerbInTurn, prefixSteps, started, fronts}
 use Rattle.definition.specs.Stem.{cutting, fronting, applied}
 use Rattle.definition.proofs.Match.{clash, either, either-not, begins-split, begins-of}
 use Rattle.definition.proofs.Found.{taken-some, all-at}
 use Rattle.definition.proofs.Cutting.{endings-kept}
+use Rattle.order.specs.Defined.{Article, AllApplied}
 use Rattle.order.proofs.Exchange.{Fails, first-fails, first-succeeds}
 use Rattle.order.proofs.Fronts.{together, front-fits, any-begins, Takes, takes}
 
@@ -129,18 +130,6 @@ fails-at s f key c p = go (takes s f)
         absurd (clash (any-begins (f .rest) key (notAt s) p y) (u .allowed))
 
 -- ---- the fronts of a defined word
-abbrev pub Article : PrefixStep → Type 0
-Article prefixStep1 = ⊥
-Article prefixStep2 = ⊥
-Article prefixStep3aNoun = Unit {0}
-Article prefixStep3bNoun = ⊥
-Article prefixStep3Verb = ⊥
-Article prefixStep4Verb = ⊥
-
-abbrev pub AllApplied : (PrefixStep → Type 0) → List Applied → Type 0
-AllApplied P [] = Unit {0}
-AllApplied P (m ∷ ms) = P (m .step) × AllApplied P ms
-
 abbrev verbs : Step Fronting
 verbs = ifOpen DEFINED (inTurn prefixStep3VerbInTurn)
 

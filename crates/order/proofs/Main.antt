@@ -7,10 +7,11 @@ use Rattle.definition.specs.Kind.{DEFINED, kind}
 use Rattle.definition.specs.Stem.{stem, applied}
 use Rattle.order.specs.Order.{Place, nowhere, placeNumber, unexchanged, stemBy}
 use Rattle.order.specs.Settled.{AllHold, settled, neighbours, places, pairOf}
+use Rattle.order.specs.Defined.{Article, AllApplied}
 use Rattle.order.proofs.Same.{same}
 use Rattle.order.proofs.Places.{places-all, settled-all}
 use Rattle.order.proofs.Settled.{settled-hold}
-use Rattle.order.proofs.Defined.{AllApplied, Article, defined-fronts}
+use Rattle.order.proofs.Defined.{defined-fronts}
 
 -- with nothing exchanged, the stem is the definition's
 pub main-same : (w : Word) → stemBy unexchanged w ≡ stem w
