@@ -1,3 +1,4 @@
+-- What is shown of the definition: the main theorems first.
 pub mod Main
 pub mod Examples
 pub mod Listed

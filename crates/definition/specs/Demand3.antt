@@ -1,4 +1,4 @@
--- Demand 3: what is owed of every stem.
+-- Demand 3: what is owed of every stem, in document 01's words.
 use mathlib.Core.Path.{_≡_}
 use mathlib.Core.Bool.{Bool, true, false}
 use mathlib.Core.Logic.{_⊎_}

@@ -1,4 +1,4 @@
--- Item 3: the endings, and the chain of the rows that are cut.
+-- Item 3 of document 01: the endings, and the chain of the rows that are cut.
 use Prim.Native.Nat.{ℕ, _-_}
 use mathlib.Core.List.{List, [], _∷_, _++_}
 use mathlib.Core.Option.{Option, none, some}

@@ -1,4 +1,4 @@
--- Item 5: the last letter, and the other letters.
+-- Item 5 of document 01: the last letter, and the other letters. Its halves are those of r_Normalize_post in the Rust, rust-stemmers 1.2.0.
 use Prim.Native.Nat.{ℕ}
 use mathlib.Core.List.{[], _∷_, map}
 use lib.Dec.{eqb, leb}
@@ -18,13 +18,13 @@ other c =
     (pick (eqb c alefHamzaBelow) alef
     (pick (eqb c yehHamza) yeh c))))
 
--- the first half: the last letter
+-- the first half: the last letter changes as a last letter
 abbrev pub lastLetter : Word → Word
 lastLetter [] = []
 lastLetter (c ∷ []) = last c ∷ []
 lastLetter (c ∷ d ∷ w) = c ∷ lastLetter (d ∷ w)
 
--- the second half: all letters; the first has left none at the end that would change here
+-- The second half: each letter changes as another. The last one does not change again, since the first half leaves none of 0622 to 0626 there.
 abbrev pub allLetters : Word → Word
 allLetters w = map other w
 

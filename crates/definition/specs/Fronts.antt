@@ -1,4 +1,4 @@
--- Item 4: the fronts.
+-- Item 4 of document 01: the fronts.
 use Prim.Native.Nat.{ℕ, _-_}
 use mathlib.Core.Bool.{Bool, true, false}
 use mathlib.Core.List.{List, [], _∷_, _++_}

@@ -1,4 +1,4 @@
--- Item 1: the kind check, on the raw word.
+-- Item 1 of document 01: the kind check, on the raw word.
 use Prim.Native.Nat.{ℕ}
 use mathlib.Core.List.{[], _∷_}
 use mathlib.Core.Option.{Option, none, some}

@@ -1,4 +1,5 @@
 -- The Arabic letters by their names in the Unicode charts, where each name follows the words ARABIC LETTER.
+-- Source: the Unicode Standard, version 14.0, block Arabic (0600 to 06FF).
 use Prim.Native.Nat.{ℕ}
 
 abbrev pub hamza : ℕ

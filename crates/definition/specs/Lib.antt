@@ -1,3 +1,4 @@
+-- The definition of a stem over letters, and what is said of it.
 pub mod Letters
 pub mod Words
 pub mod Tables

@@ -1,4 +1,4 @@
--- Item 2: each letter of the word once; rows of A_0 delete or replace it, and a replacement is not read again.
+-- Item 2 of document 01: each letter of the word once; rows of A_0 delete or replace it, and a replacement is not read again.
 use Prim.Native.Nat.{ℕ, zero, suc}
 use mathlib.Core.List.{[], _∷_, _++_}
 use lib.Dec.{eqb}

@@ -1,4 +1,5 @@
--- The two searches of the Snowball manual: of all rows that match, the longest. With `beginsWith` it is the match in front, with `endsWith` the match at the end.
+-- The two searches: of all rows that match, the longest. With `beginsWith` it is the match in front, with `endsWith` the match at the end.
+-- Source: the Snowball manual, on `substring` and `among`, forward and backward.
 use Prim.Native.Nat.{ℕ, zero, suc}
 use mathlib.Core.Bool.{Bool, true, false}
 use mathlib.Core.List.{List, [], _∷_}

@@ -1,4 +1,5 @@
--- The tables of source document 000 under the Rust's names: each row's letters and its class, in the order of the source.
+-- The tables of the Rust under their names there: each row's letters and its class, in the order of the source.
+-- Source: rust-stemmers 1.2.0, src/snowball/algorithms/arabic.rs. Rows of A_0 from FE80 on are letters of Unicode 14.0's block Arabic Presentation Forms-B.
 use Prim.Native.Nat.{ℕ}
 use mathlib.Core.List.{List, [], _∷_}
 use Rattle.definition.specs.Letters.{alefMadda, alefHamzaAbove, wawHamza, alefHamzaBelow, yehHamza, alef, beh, tehMarbuta, teh, seen, feh, kaf, lam, meem, noon, heh, waw, alefMaksura, yeh}

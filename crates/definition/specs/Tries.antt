@@ -1,4 +1,5 @@
 -- How steps are put together. A step succeeds or fails, and what it did before it failed stays done.
+-- Source: the Snowball manual, on the signals that commands give and on `or`, `repeat` and `try`.
 use Prim.Native.Nat.{ℕ, zero, suc}
 use mathlib.Core.Bool.{Bool, true, false}
 use mathlib.Core.List.{List, [], _∷_}

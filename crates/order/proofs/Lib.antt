@@ -1,3 +1,4 @@
+-- What is shown of the order of the steps: the main theorems first.
 pub mod Main
 pub mod Exchange
 pub mod Apart

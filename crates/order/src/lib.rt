@@ -1,1 +1,1 @@
-// The steps in another order stand in specs/, what comes of it in proofs/. There is no function here.
+// The steps in another order, and what comes of it, stand in specs/, the proofs in proofs/. The crate has no code.
