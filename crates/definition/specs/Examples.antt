@@ -1,9 +1,10 @@
--- Words and what the definition gives for them: document 01's twelve, and worked examples for every step that changes a word.
+-- Words and what the definition gives for them: document 01's twelve, worked examples for every step that changes a word, and small words for every row and guard.
 use Prim.Native.Nat.{ℕ}
 use mathlib.Core.List.{List, [], _∷_}
-use Rattle.definition.specs.Letters.{hamza, alefHamzaAbove, wawHamza, alef, beh, tehMarbuta, teh, jeem, hah, khah, dal, reh, seen, feh, kaf, lam, meem, noon, heh, waw, alefMaksura, yeh}
+use Rattle.definition.specs.Letters.{hamza, alefMadda, alefHamzaAbove, wawHamza, alefHamzaBelow, yehHamza, alef, beh, tehMarbuta, teh, theh, jeem, hah, khah, dal, thal, reh, zain, seen, sheen, sad, dad, tah, zah, ain, ghain, feh, qaf, kaf, lam, meem, noon, heh, waw, alefMaksura, yeh}
 use Rattle.definition.specs.Words.{Word}
 use Rattle.definition.specs.Kind.{Kind, OPEN, DEFINED, kind}
+use Rattle.definition.specs.Normal.{normalise}
 use Rattle.definition.specs.Endings.{SuffixStep, verbStep1, verbStep2a, verbStep2b, verbStep2c, nounStep1b, nounStep2a, nounStep2b, nounStep2c1, nounStep2c2, nounStep3, Cut}
 use Rattle.definition.specs.Fronts.{prefixStep1, prefixStep2, prefixStep3aNoun, prefixStep3bNoun, prefixStep3Verb, prefixStep4Verb, Applied, at}
 use Rattle.definition.specs.Stem.{stem, chain, applied}
@@ -101,4 +102,175 @@ examples =
     ∷ worked (seen ∷ yeh ∷ teh ∷ seen ∷ teh ∷ khah ∷ reh ∷ jeem ∷ []) OPEN [] (at prefixStep4Verb 0 ∷ at prefixStep3Verb 3 ∷ []) (yeh ∷ alef ∷ seen ∷ teh ∷ khah ∷ reh ∷ jeem ∷ [])
     -- a last letter with hamza
     ∷ worked (beh ∷ dal ∷ alefHamzaAbove ∷ []) OPEN [] [] (beh ∷ dal ∷ hamza ∷ [])
+    ∷ []
+
+-- Small words: each shows a wrong guard, row, class, exception or replacement of its step that no word above shows (compare/wrong).
+unfoldable pub samples : List Sample
+samples =
+    -- the kind check
+    sample (alef ∷ lam ∷ dal ∷ []) (alef ∷ lam ∷ dal ∷ []) OPEN
+    ∷ sample (alef ∷ lam ∷ dal ∷ reh ∷ []) (alef ∷ lam ∷ dal ∷ reh ∷ []) DEFINED
+    ∷ sample (beh ∷ alef ∷ lam ∷ dal ∷ []) (beh ∷ alef ∷ lam ∷ dal ∷ []) OPEN
+    ∷ sample (kaf ∷ alef ∷ lam ∷ dal ∷ []) (kaf ∷ alef ∷ lam ∷ dal ∷ []) OPEN
+    ∷ sample (lam ∷ lam ∷ dal ∷ reh ∷ []) (lam ∷ lam ∷ dal ∷ reh ∷ []) DEFINED
+    ∷ sample (kaf ∷ alef ∷ lam ∷ dal ∷ reh ∷ []) (kaf ∷ alef ∷ lam ∷ dal ∷ reh ∷ []) DEFINED
+    -- the verb's Step1
+    ∷ sample (dal ∷ reh ∷ kaf ∷ noon ∷ []) (dal ∷ reh ∷ kaf ∷ []) OPEN
+    ∷ sample (dal ∷ reh ∷ noon ∷ alef ∷ []) (dal ∷ reh ∷ noon ∷ alef ∷ []) OPEN
+    ∷ sample (dal ∷ reh ∷ noon ∷ yeh ∷ []) (dal ∷ reh ∷ noon ∷ []) OPEN
+    ∷ sample (dal ∷ reh ∷ heh ∷ alef ∷ []) (dal ∷ reh ∷ heh ∷ []) OPEN
+    ∷ sample (dal ∷ reh ∷ heh ∷ meem ∷ []) (dal ∷ reh ∷ heh ∷ meem ∷ []) OPEN
+    ∷ sample (dal ∷ reh ∷ heh ∷ noon ∷ []) (dal ∷ reh ∷ heh ∷ []) OPEN
+    ∷ sample (dal ∷ reh ∷ hah ∷ kaf ∷ noon ∷ []) (dal ∷ reh ∷ hah ∷ []) OPEN
+    ∷ sample (dal ∷ reh ∷ hah ∷ kaf ∷ heh ∷ []) (dal ∷ reh ∷ hah ∷ []) OPEN
+    ∷ sample (dal ∷ reh ∷ hah ∷ noon ∷ yeh ∷ []) (dal ∷ reh ∷ hah ∷ []) OPEN
+    ∷ sample (dal ∷ reh ∷ hah ∷ heh ∷ alef ∷ []) (dal ∷ reh ∷ hah ∷ []) OPEN
+    ∷ sample (dal ∷ reh ∷ hah ∷ heh ∷ noon ∷ []) (dal ∷ reh ∷ hah ∷ []) OPEN
+    ∷ sample (dal ∷ reh ∷ hah ∷ heh ∷ heh ∷ alef ∷ []) (dal ∷ reh ∷ hah ∷ []) OPEN
+    ∷ sample (dal ∷ reh ∷ kaf ∷ meem ∷ noon ∷ yeh ∷ []) (dal ∷ reh ∷ kaf ∷ meem ∷ []) OPEN
+    ∷ sample (dal ∷ reh ∷ hah ∷ kaf ∷ meem ∷ kaf ∷ noon ∷ []) (dal ∷ reh ∷ hah ∷ []) OPEN
+    ∷ sample (dal ∷ reh ∷ hah ∷ heh ∷ meem ∷ heh ∷ alef ∷ []) (dal ∷ reh ∷ hah ∷ []) OPEN
+    ∷ sample (dal ∷ reh ∷ kaf ∷ meem ∷ alef ∷ noon ∷ alef ∷ []) (dal ∷ reh ∷ kaf ∷ meem ∷ []) OPEN
+    ∷ sample (dal ∷ reh ∷ hah ∷ kaf ∷ meem ∷ alef ∷ heh ∷ meem ∷ []) (dal ∷ reh ∷ hah ∷ []) OPEN
+    ∷ sample (dal ∷ reh ∷ kaf ∷ meem ∷ waw ∷ kaf ∷ meem ∷ waw ∷ []) (dal ∷ reh ∷ kaf ∷ meem ∷ []) OPEN
+    ∷ sample (dal ∷ reh ∷ heh ∷ meem ∷ alef ∷ heh ∷ meem ∷ alef ∷ []) (dal ∷ reh ∷ heh ∷ meem ∷ []) OPEN
+    -- Step2a
+    ∷ sample (dal ∷ reh ∷ alef ∷ []) (dal ∷ reh ∷ alef ∷ []) OPEN
+    ∷ sample (dal ∷ reh ∷ teh ∷ []) (dal ∷ reh ∷ teh ∷ []) OPEN
+    ∷ sample (dal ∷ reh ∷ teh ∷ alef ∷ []) (dal ∷ reh ∷ teh ∷ alef ∷ []) OPEN
+    ∷ sample (dal ∷ reh ∷ teh ∷ noon ∷ []) (dal ∷ reh ∷ teh ∷ noon ∷ []) OPEN
+    ∷ sample (dal ∷ reh ∷ hah ∷ alef ∷ noon ∷ []) (dal ∷ reh ∷ hah ∷ alef ∷ noon ∷ []) OPEN
+    ∷ sample (dal ∷ reh ∷ hah ∷ teh ∷ alef ∷ []) (dal ∷ reh ∷ hah ∷ []) OPEN
+    ∷ sample (dal ∷ reh ∷ hah ∷ teh ∷ noon ∷ []) (dal ∷ reh ∷ hah ∷ []) OPEN
+    ∷ sample (dal ∷ reh ∷ hah ∷ yeh ∷ noon ∷ []) (dal ∷ reh ∷ hah ∷ yeh ∷ noon ∷ []) OPEN
+    ∷ sample (dal ∷ reh ∷ hah ∷ teh ∷ meem ∷ alef ∷ []) (dal ∷ reh ∷ hah ∷ []) OPEN
+    ∷ sample (dal ∷ reh ∷ hah ∷ yeh ∷ heh ∷ alef ∷ []) (dal ∷ reh ∷ hah ∷ []) OPEN
+    ∷ sample (dal ∷ reh ∷ teh ∷ meem ∷ alef ∷ heh ∷ alef ∷ []) (dal ∷ reh ∷ teh ∷ meem ∷ alef ∷ []) OPEN
+    ∷ sample (dal ∷ reh ∷ hah ∷ dal ∷ alef ∷ noon ∷ heh ∷ alef ∷ []) (dal ∷ reh ∷ hah ∷ dal ∷ []) OPEN
+    -- Step2b
+    ∷ sample (dal ∷ reh ∷ hah ∷ teh ∷ meem ∷ []) (dal ∷ reh ∷ hah ∷ []) OPEN
+    -- Step2c
+    ∷ sample (dal ∷ reh ∷ waw ∷ heh ∷ alef ∷ []) (dal ∷ reh ∷ waw ∷ []) OPEN
+    ∷ sample (dal ∷ reh ∷ hah ∷ waw ∷ heh ∷ alef ∷ []) (dal ∷ reh ∷ hah ∷ []) OPEN
+    -- the noun's Step1a
+    ∷ sample (dal ∷ reh ∷ kaf ∷ meem ∷ []) (dal ∷ reh ∷ kaf ∷ meem ∷ []) OPEN
+    -- the noun's Step2a
+    ∷ sample (dal ∷ reh ∷ teh ∷ meem ∷ alef ∷ []) (dal ∷ reh ∷ teh ∷ meem ∷ []) OPEN
+    -- Step2b
+    ∷ sample (alef ∷ lam ∷ alef ∷ teh ∷ []) (alef ∷ lam ∷ alef ∷ teh ∷ []) DEFINED
+    ∷ sample (alef ∷ lam ∷ dal ∷ alef ∷ teh ∷ []) (alef ∷ lam ∷ dal ∷ []) DEFINED
+    -- Step2c2
+    ∷ sample (dal ∷ reh ∷ tehMarbuta ∷ []) (dal ∷ reh ∷ tehMarbuta ∷ []) OPEN
+    -- Step3
+    ∷ sample (dal ∷ yeh ∷ []) (dal ∷ yeh ∷ []) OPEN
+    -- the last 0649: no other letter
+    ∷ sample (waw ∷ []) (waw ∷ []) OPEN
+    -- the fronts: Step1
+    ∷ sample (alefHamzaAbove ∷ alefMadda ∷ dal ∷ []) (alef ∷ alef ∷ dal ∷ []) OPEN
+    ∷ sample (alefHamzaAbove ∷ alefHamzaAbove ∷ dal ∷ []) (alef ∷ alef ∷ dal ∷ []) OPEN
+    ∷ sample (alefHamzaAbove ∷ wawHamza ∷ dal ∷ []) (alef ∷ waw ∷ dal ∷ []) OPEN
+    ∷ sample (alefHamzaAbove ∷ alefHamzaBelow ∷ dal ∷ []) (alef ∷ alef ∷ dal ∷ []) OPEN
+    ∷ sample (alefHamzaAbove ∷ alef ∷ dal ∷ []) (alef ∷ alef ∷ dal ∷ []) OPEN
+    ∷ sample (alefHamzaAbove ∷ alefMadda ∷ dal ∷ reh ∷ []) (alef ∷ dal ∷ reh ∷ []) OPEN
+    ∷ sample (alefHamzaAbove ∷ alefHamzaAbove ∷ dal ∷ reh ∷ []) (alef ∷ dal ∷ reh ∷ []) OPEN
+    ∷ sample (alefHamzaAbove ∷ alefHamzaBelow ∷ dal ∷ reh ∷ []) (alef ∷ dal ∷ reh ∷ []) OPEN
+    ∷ sample (alefHamzaAbove ∷ alef ∷ dal ∷ reh ∷ []) (alef ∷ dal ∷ reh ∷ []) OPEN
+    -- Step2
+    ∷ sample (feh ∷ dal ∷ reh ∷ []) (feh ∷ dal ∷ reh ∷ []) OPEN
+    ∷ sample (feh ∷ dal ∷ reh ∷ hah ∷ []) (dal ∷ reh ∷ hah ∷ []) OPEN
+    -- Step3a_Noun
+    ∷ sample (lam ∷ lam ∷ dal ∷ reh ∷ hah ∷ []) (dal ∷ reh ∷ hah ∷ []) DEFINED
+    ∷ sample (kaf ∷ alef ∷ lam ∷ dal ∷ reh ∷ hah ∷ []) (dal ∷ reh ∷ hah ∷ []) DEFINED
+    -- Step3b_Noun
+    ∷ sample (beh ∷ beh ∷ dal ∷ []) (beh ∷ beh ∷ dal ∷ []) OPEN
+    ∷ sample (kaf ∷ kaf ∷ dal ∷ []) (kaf ∷ kaf ∷ dal ∷ []) OPEN
+    ∷ sample (beh ∷ beh ∷ dal ∷ reh ∷ []) (beh ∷ dal ∷ reh ∷ []) OPEN
+    ∷ sample (beh ∷ dal ∷ reh ∷ hah ∷ []) (dal ∷ reh ∷ hah ∷ []) OPEN
+    -- Step3_Verb
+    ∷ sample (seen ∷ alefHamzaAbove ∷ dal ∷ reh ∷ []) (seen ∷ alef ∷ dal ∷ reh ∷ []) OPEN
+    ∷ sample (seen ∷ teh ∷ dal ∷ reh ∷ []) (seen ∷ teh ∷ dal ∷ reh ∷ []) OPEN
+    ∷ sample (seen ∷ noon ∷ dal ∷ reh ∷ []) (seen ∷ noon ∷ dal ∷ reh ∷ []) OPEN
+    ∷ sample (seen ∷ yeh ∷ dal ∷ reh ∷ []) (seen ∷ yeh ∷ dal ∷ reh ∷ []) OPEN
+    ∷ sample (seen ∷ alefHamzaAbove ∷ dal ∷ reh ∷ hah ∷ []) (alef ∷ dal ∷ reh ∷ hah ∷ []) OPEN
+    ∷ sample (seen ∷ teh ∷ dal ∷ reh ∷ hah ∷ []) (teh ∷ dal ∷ reh ∷ hah ∷ []) OPEN
+    ∷ sample (seen ∷ noon ∷ dal ∷ reh ∷ hah ∷ []) (noon ∷ dal ∷ reh ∷ hah ∷ []) OPEN
+    ∷ sample (seen ∷ yeh ∷ dal ∷ reh ∷ hah ∷ []) (yeh ∷ dal ∷ reh ∷ hah ∷ []) OPEN
+    -- Step4_Verb
+    ∷ sample (teh ∷ seen ∷ teh ∷ dal ∷ []) (teh ∷ seen ∷ teh ∷ dal ∷ []) OPEN
+    ∷ sample (noon ∷ seen ∷ teh ∷ dal ∷ reh ∷ []) (alef ∷ seen ∷ teh ∷ dal ∷ reh ∷ []) OPEN
+    ∷ sample (yeh ∷ seen ∷ teh ∷ dal ∷ reh ∷ []) (alef ∷ seen ∷ teh ∷ dal ∷ reh ∷ []) OPEN
+    -- finishing: the other letters
+    ∷ sample (hamza ∷ dal ∷ []) (hamza ∷ dal ∷ []) OPEN
+    ∷ sample (yehHamza ∷ dal ∷ []) (yeh ∷ dal ∷ []) OPEN
+    -- the last letter
+    ∷ sample (hamza ∷ []) (hamza ∷ []) OPEN
+    ∷ sample (alefMadda ∷ []) (hamza ∷ []) OPEN
+    ∷ sample (wawHamza ∷ []) (hamza ∷ []) OPEN
+    ∷ sample (alefHamzaBelow ∷ []) (hamza ∷ []) OPEN
+    ∷ sample (yehHamza ∷ []) (hamza ∷ []) OPEN
+    ∷ []
+
+-- Item 2 alone, on words of the letters that it reads: what it gives for them.
+pub record NormalSample : Type 0 where
+  pub word : Word
+  pub normal : Word
+
+abbrev pub normalSample : Word → Word → NormalSample
+normalSample w n = record { word = w; normal = n }
+
+unfoldable pub normalised : NormalSample → NormalSample
+normalised s = normalSample (s .word) (normalise (s .word))
+
+unfoldable pub normalSamples : List NormalSample
+normalSamples =
+    -- deleted: punctuation of ASCII; of Arabic, with the signs for percent, decimals and thousands; the tatweel and the vowel marks
+    normalSample (0x21 ∷ 0x22 ∷ 0x25 ∷ 0x2A ∷ 0x2C ∷ 0x2E ∷ 0x2F ∷ 0x3A ∷ 0x3B ∷ 0x3F ∷ 0x5C ∷ []) []
+    ∷ normalSample (0x60C ∷ 0x61B ∷ 0x61F ∷ 0x66A ∷ 0x66B ∷ 0x66C ∷ []) []
+    ∷ normalSample (0x640 ∷ 0x64B ∷ 0x64C ∷ 0x64D ∷ 0x64E ∷ 0x64F ∷ 0x650 ∷ 0x651 ∷ 0x652 ∷ []) []
+    -- digits
+    ∷ normalSample (0x660 ∷ 0x661 ∷ 0x662 ∷ 0x663 ∷ 0x664 ∷ 0x665 ∷ 0x666 ∷ 0x667 ∷ 0x668 ∷ 0x669 ∷ []) (0x30 ∷ 0x31 ∷ 0x32 ∷ 0x33 ∷ 0x34 ∷ 0x35 ∷ 0x36 ∷ 0x37 ∷ 0x38 ∷ 0x39 ∷ [])
+    -- a letter in each of its forms
+    ∷ normalSample (0xFE80 ∷ []) (hamza ∷ [])
+    ∷ normalSample (0xFE81 ∷ 0xFE82 ∷ []) (alefMadda ∷ alefMadda ∷ [])
+    ∷ normalSample (0xFE83 ∷ 0xFE84 ∷ []) (alefHamzaAbove ∷ alefHamzaAbove ∷ [])
+    ∷ normalSample (0xFE85 ∷ 0xFE86 ∷ []) (wawHamza ∷ wawHamza ∷ [])
+    ∷ normalSample (0xFE87 ∷ 0xFE88 ∷ []) (alefHamzaBelow ∷ alefHamzaBelow ∷ [])
+    ∷ normalSample (0xFE89 ∷ 0xFE8A ∷ 0xFE8B ∷ 0xFE8C ∷ []) (yehHamza ∷ yehHamza ∷ yehHamza ∷ yehHamza ∷ [])
+    ∷ normalSample (0xFE8D ∷ 0xFE8E ∷ []) (alef ∷ alef ∷ [])
+    ∷ normalSample (0xFE8F ∷ 0xFE90 ∷ 0xFE91 ∷ 0xFE92 ∷ []) (beh ∷ beh ∷ beh ∷ beh ∷ [])
+    ∷ normalSample (0xFE93 ∷ 0xFE94 ∷ []) (tehMarbuta ∷ tehMarbuta ∷ [])
+    ∷ normalSample (0xFE95 ∷ 0xFE96 ∷ 0xFE97 ∷ 0xFE98 ∷ []) (teh ∷ teh ∷ teh ∷ teh ∷ [])
+    ∷ normalSample (0xFE99 ∷ 0xFE9A ∷ 0xFE9B ∷ 0xFE9C ∷ []) (theh ∷ theh ∷ theh ∷ theh ∷ [])
+    ∷ normalSample (0xFE9D ∷ 0xFE9E ∷ 0xFE9F ∷ 0xFEA0 ∷ []) (jeem ∷ jeem ∷ jeem ∷ jeem ∷ [])
+    ∷ normalSample (0xFEA1 ∷ 0xFEA2 ∷ 0xFEA3 ∷ 0xFEA4 ∷ []) (hah ∷ hah ∷ hah ∷ hah ∷ [])
+    ∷ normalSample (0xFEA5 ∷ 0xFEA6 ∷ 0xFEA7 ∷ 0xFEA8 ∷ []) (khah ∷ khah ∷ khah ∷ khah ∷ [])
+    ∷ normalSample (0xFEA9 ∷ 0xFEAA ∷ []) (dal ∷ dal ∷ [])
+    ∷ normalSample (0xFEAB ∷ 0xFEAC ∷ []) (thal ∷ thal ∷ [])
+    ∷ normalSample (0xFEAD ∷ 0xFEAE ∷ []) (reh ∷ reh ∷ [])
+    ∷ normalSample (0xFEAF ∷ 0xFEB0 ∷ []) (zain ∷ zain ∷ [])
+    ∷ normalSample (0xFEB1 ∷ 0xFEB2 ∷ 0xFEB3 ∷ 0xFEB4 ∷ []) (seen ∷ seen ∷ seen ∷ seen ∷ [])
+    ∷ normalSample (0xFEB5 ∷ 0xFEB6 ∷ 0xFEB7 ∷ 0xFEB8 ∷ []) (sheen ∷ sheen ∷ sheen ∷ sheen ∷ [])
+    ∷ normalSample (0xFEB9 ∷ 0xFEBA ∷ 0xFEBB ∷ 0xFEBC ∷ []) (sad ∷ sad ∷ sad ∷ sad ∷ [])
+    ∷ normalSample (0xFEBD ∷ 0xFEBE ∷ 0xFEBF ∷ 0xFEC0 ∷ []) (dad ∷ dad ∷ dad ∷ dad ∷ [])
+    ∷ normalSample (0xFEC1 ∷ 0xFEC2 ∷ 0xFEC3 ∷ 0xFEC4 ∷ []) (tah ∷ tah ∷ tah ∷ tah ∷ [])
+    ∷ normalSample (0xFEC5 ∷ 0xFEC6 ∷ 0xFEC7 ∷ 0xFEC8 ∷ []) (zah ∷ zah ∷ zah ∷ zah ∷ [])
+    ∷ normalSample (0xFEC9 ∷ 0xFECA ∷ 0xFECB ∷ 0xFECC ∷ []) (ain ∷ ain ∷ ain ∷ ain ∷ [])
+    ∷ normalSample (0xFECD ∷ 0xFECE ∷ 0xFECF ∷ 0xFED0 ∷ []) (ghain ∷ ghain ∷ ghain ∷ ghain ∷ [])
+    ∷ normalSample (0xFED1 ∷ 0xFED2 ∷ 0xFED3 ∷ 0xFED4 ∷ []) (feh ∷ feh ∷ feh ∷ feh ∷ [])
+    ∷ normalSample (0xFED5 ∷ 0xFED6 ∷ 0xFED7 ∷ 0xFED8 ∷ []) (qaf ∷ qaf ∷ qaf ∷ qaf ∷ [])
+    ∷ normalSample (0xFED9 ∷ 0xFEDA ∷ 0xFEDB ∷ 0xFEDC ∷ []) (kaf ∷ kaf ∷ kaf ∷ kaf ∷ [])
+    ∷ normalSample (0xFEDD ∷ 0xFEDE ∷ 0xFEDF ∷ 0xFEE0 ∷ []) (lam ∷ lam ∷ lam ∷ lam ∷ [])
+    ∷ normalSample (0xFEE1 ∷ 0xFEE2 ∷ 0xFEE3 ∷ 0xFEE4 ∷ []) (meem ∷ meem ∷ meem ∷ meem ∷ [])
+    ∷ normalSample (0xFEE5 ∷ 0xFEE6 ∷ 0xFEE7 ∷ 0xFEE8 ∷ []) (noon ∷ noon ∷ noon ∷ noon ∷ [])
+    ∷ normalSample (0xFEE9 ∷ 0xFEEA ∷ 0xFEEB ∷ 0xFEEC ∷ []) (heh ∷ heh ∷ heh ∷ heh ∷ [])
+    ∷ normalSample (0xFEED ∷ 0xFEEE ∷ []) (waw ∷ waw ∷ [])
+    ∷ normalSample (0xFEEF ∷ 0xFEF0 ∷ []) (alefMaksura ∷ alefMaksura ∷ [])
+    ∷ normalSample (0xFEF1 ∷ 0xFEF2 ∷ 0xFEF3 ∷ 0xFEF4 ∷ []) (yeh ∷ yeh ∷ yeh ∷ yeh ∷ [])
+    -- the ligatures of lam and alef
+    ∷ normalSample (0xFEF5 ∷ 0xFEF6 ∷ []) (lam ∷ alefMadda ∷ lam ∷ alefMadda ∷ [])
+    ∷ normalSample (0xFEF7 ∷ 0xFEF8 ∷ []) (lam ∷ alefHamzaAbove ∷ lam ∷ alefHamzaAbove ∷ [])
+    ∷ normalSample (0xFEF9 ∷ 0xFEFA ∷ []) (lam ∷ alefHamzaBelow ∷ lam ∷ alefHamzaBelow ∷ [])
+    ∷ normalSample (0xFEFB ∷ 0xFEFC ∷ []) (lam ∷ alef ∷ lam ∷ alef ∷ [])
+    -- letters beside these stay
+    ∷ normalSample (0x20 ∷ 0x23 ∷ 0x26 ∷ 0x5B ∷ 0x5D ∷ 0x653 ∷ 0x65F ∷ 0x66D ∷ 0xFE7F ∷ 0xFEFD ∷ []) (0x20 ∷ 0x23 ∷ 0x26 ∷ 0x5B ∷ 0x5D ∷ 0x653 ∷ 0x65F ∷ 0x66D ∷ 0xFE7F ∷ 0xFEFD ∷ [])
     ∷ []
