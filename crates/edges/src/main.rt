@@ -1,27 +1,26 @@
 // The edges of document 01. Each line has a name, the answer's code and count, and every byte of the output and of four more behind
-// it, in hexadecimal. Before the call all of them are A5.
+// it, in hexadecimal. Before the call the byte at i is i % 251.
 use libc::STDOUT_FILENO;
 use stemmer::Answer;
+use stemmer::ROOM;
 ghost use mathlib.Core.Path.{_≡_};
 ghost use Prim.Native.Nat.{_<_, _≤_};
 ghost use lib.ListN.{length};
+ghost use Rattle.edges.specs.Sizes.{space, largest};
+
+// The largest output that is lent, and how many bytes behind an output are printed with it.
+const LARGEST: usize = 396;
+
+const BEHIND: usize = 4;
+
+const SPACE: usize = LARGEST + BEHIND;
 
 fn write(text: &[u8]) {
     io::write_all(STDOUT_FILENO, text);
 }
 
-fn digit(n: u8) -> u8
-    requires { ⌜ n < 16 ⌝ }
-{
-    if n < 10 {
-        return b'0' + n;
-    }
-    b'A' + (n - 10)
-}
-
 fn write_byte(b: u8) {
-    let pair = [digit(b / 16), digit(b % 16)];
-    write(&pair);
+    io::print_hex(STDOUT_FILENO, b as u64, 2);
 }
 
 fn write_bytes(bytes: &[u8]) {
@@ -44,26 +43,32 @@ fn write_answer(a: Answer) {
     }
 }
 
-// An output before a call.
-fn filled() -> [u8; 400]
-    ensures { λ r. ⌜ 400 ≡ length r ⌝ }
+// An output before a call, with the bytes behind it: no two neighbours are alike, and no other part of it begins as the front does.
+fn filled() -> [u8; SPACE]
+    ensures { λ r. ⌜ space ≡ length r ⌝ }
 {
-    [0xA5; 400]
+    let mut out = [0u8; SPACE];
+    let mut i = 0;
+    while i < SPACE {
+        out[i] = (i % 251) as u8;
+        i += 1;
+    }
+    out
 }
 
-// The first room bytes of out, and four more.
-fn write_rest(out: &[u8; 400], room: usize)
-    requires { ⌜ room ≤ 396 ⌝ }
+// The first room bytes of out, and those behind them.
+fn write_rest(out: &[u8; SPACE], room: usize)
+    requires { ⌜ room ≤ largest ⌝ }
 {
     write(b" ");
-    for i in 0..room + 4 {
+    for i in 0..room + BEHIND {
         write_byte(out[i]);
     }
     write(b"\n");
 }
 
 fn stem(name: &[u8], word: &[u8], room: usize)
-    requires { ⌜ room ≤ 396 ⌝ }
+    requires { ⌜ room ≤ largest ⌝ }
 {
     write(name);
     let mut out = filled();
@@ -73,7 +78,7 @@ fn stem(name: &[u8], word: &[u8], room: usize)
 }
 
 fn normalise(name: &[u8], word: &[u8], room: usize)
-    requires { ⌜ room ≤ 396 ⌝ }
+    requires { ⌜ room ≤ largest ⌝ }
 {
     write(name);
     let mut out = filled();
@@ -83,7 +88,7 @@ fn normalise(name: &[u8], word: &[u8], room: usize)
 }
 
 fn finish(name: &[u8], word: &[u8], room: usize)
-    requires { ⌜ room ≤ 396 ⌝ }
+    requires { ⌜ room ≤ largest ⌝ }
 {
     write(name);
     let mut out = filled();
@@ -94,7 +99,7 @@ fn finish(name: &[u8], word: &[u8], room: usize)
 
 // The part that is handed back, in place of code and count, and then the output.
 fn stem_part(name: &[u8], word: &[u8], room: usize)
-    requires { ⌜ room ≤ 396 ⌝ }
+    requires { ⌜ room ≤ largest ⌝ }
 {
     write(name);
     let mut out = filled();
@@ -170,11 +175,30 @@ fn rooms(word: &[u8]) {
     kind(b"kind, defined: ", word);
 }
 
-// The part that is handed back.
+// The part that is handed back, and the output behind it.
 fn parts(word: &[u8]) {
     stem_part(b"part, room for 8: ", word, 8);
     stem_part(b"part, room for 16: ", word, 16);
     stem_part(b"part, room for 7: ", word, 7);
+    stem_part(b"part, room for 340: ", word, ROOM);
+    stem_part(b"part, room for 396: ", word, LARGEST);
+}
+
+// An empty part, and an output that is as it was.
+fn refused_parts() {
+    let latin = [b'a'; 256];
+    stem_part(b"part, 256 bytes of a, room for 340: ", &latin, ROOM);
+    stem_part(b"part, 256 bytes of a, room for 396: ", &latin, LARGEST);
+    stem_part(b"part, C0 80, room for 340: ", b"\xC0\x80", ROOM);
+    stem_part(b"part, C0 80, room for 396: ", b"\xC0\x80", LARGEST);
+}
+
+// The longest parts: the stem of 85 times FEFB has 338 bytes.
+fn long_parts() {
+    let word = ligatures();
+    stem_part(b"part, 85 times FEFB, room for 337: ", &word, 337);
+    stem_part(b"part, 85 times FEFB, room for 340: ", &word, ROOM);
+    stem_part(b"part, 85 times FEFB, room for 396: ", &word, LARGEST);
 }
 
 // The empty word, and a word that becomes empty.
@@ -184,8 +208,15 @@ fn empty() {
     normalise(b"normalise, empty word, no room: ", b"", 0);
     finish(b"finish, empty word, no room: ", b"", 0);
     kind(b"kind, empty word: ", b"");
-    stem_part(b"part, empty word, no room: ", b"", 0);
     stem(b"stem, a mark alone: ", b"!", 4);
+}
+
+// Empty parts under code 0.
+fn empty_parts() {
+    stem_part(b"part, empty word, no room: ", b"", 0);
+    stem_part(b"part, empty word, room for 340: ", b"", ROOM);
+    stem_part(b"part, empty word, room for 396: ", b"", LARGEST);
+    stem_part(b"part, a mark alone, room for 4: ", b"!", 4);
 }
 
 fn main() {
@@ -195,5 +226,8 @@ fn main() {
     not_well_formed();
     rooms(book);
     parts(book);
+    refused_parts();
+    long_parts();
     empty();
+    empty_parts();
 }

@@ -150,20 +150,26 @@ owed word old new a e o = λ w d z. (
   ),
 )
 
--- the part that is handed back
-pub part-done : (f : Word → Word) (word old : List ℕ) (n : ℕ) → answer f word (length old) ≡ Done n
-    → take n (outAfter (Done n) (bytesOf f word) old) ≡ partAfter (answer f word (length old)) (bytesOf f word)
-unfolding partAfter
-part-done f word old n e =
-    front f word old (Done n) (sym e) refl ∙ sym (ap (λ (a : Answer). partAfter a (bytesOf f word)) e)
+-- the part that is handed back: as many bytes of the output as the answer counts
+module _ (f : Word → Word) (word old : List ℕ) where
+  counted : (a : Answer) → a ≡ answer f word (length old) → countOf a ≤ length old
+  counted (Done n) e = count-fits f word (length old) n (sym e)
+  counted TooLong e = omega arith
+  counted NotWellFormed e = omega arith
+  counted NoRoom e = omega arith
 
-pub part-empty : (f : Word → Word) (word : List ℕ) (room : ℕ) (a : Answer) → answer f word room ≡ a → (codeOf a ≡ 0 → ⊥)
-    → [] ≡ partAfter (answer f word room) (bytesOf f word)
-unfolding partAfter
-part-empty f word room (Done n) e z = absurd (z refl)
-part-empty f word room TooLong e z = sym (ap (λ (a : Answer). partAfter a (bytesOf f word)) e)
-part-empty f word room NotWellFormed e z = sym (ap (λ (a : Answer). partAfter a (bytesOf f word)) e)
-part-empty f word room NoRoom e z = sym (ap (λ (a : Answer). partAfter a (bytesOf f word)) e)
+  parted : (a : Answer) → a ≡ answer f word (length old) → take (countOf a) (outAfter a (bytesOf f word) old) ≡ partAfter a (bytesOf f word)
+  unfolding outAfter partAfter
+  parted (Done n) e = front f word old (Done n) e refl
+  parted TooLong e = refl
+  parted NotWellFormed e = refl
+  parted NoRoom e = refl
+
+  pub count-within : countOf (answer f word (length old)) ≤ length old
+  count-within = counted (answer f word (length old)) refl
+
+  pub part-is : take (countOf (answer f word (length old))) (outAfter (answer f word (length old)) (bytesOf f word) old) ≡ partAfter (answer f word (length old)) (bytesOf f word)
+  part-is = parted (answer f word (length old)) refl
 
 -- ---- the kind
 

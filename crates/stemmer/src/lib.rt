@@ -11,7 +11,7 @@ ghost use lib.ListN.{length, take, drop};
 ghost use Rattle.definition.specs.Normal.{normalise};
 ghost use Rattle.definition.specs.Finish.{finish};
 ghost use Rattle.definition.specs.Stem.{stem};
-ghost use Rattle.stemmer.specs.Entries.{codeOf, bytesOf, fitting, answer, outAfter, partAfter, kindAnswer, Demand3After, version};
+ghost use Rattle.stemmer.specs.Entries.{codeOf, countOf, bytesOf, fitting, answer, outAfter, partAfter, kindAnswer, Demand3After, version, stemAnswer, stemBytes};
 
 // What an entry with an output answers. Done has the number of bytes that it wrote, from the front of the output on; a
 // refusal leaves the output as it was.
@@ -30,6 +30,9 @@ pub struct KindAnswer {
 
 // The most bytes that a word may have.
 pub const LONGEST: usize = 255;
+
+// An output of so many bytes is long enough for every result.
+pub const ROOM: usize = 340;
 
 // Copies the first n bytes of text to the front of out. The bytes of out behind them stay.
 fn copy_front(text: &[u8], n: usize, out: &mut [u8])
@@ -75,18 +78,35 @@ pub fn stem(word: &[u8], out: &mut [u8]) -> Answer
     Answer::NotWellFormed
 }
 
-// The stem of the word as the front part of the output, and an empty part on refusal. It gives no code.
+// The number of bytes that an answer says were written: none on refusal.
+fn count_of(a: Answer) -> usize
+    ensures { λ r. ⌜ r ≡ countOf a ⌝ }
+{
+    match a {
+        Answer::Done(count) => count,
+        Answer::TooLong => 0,
+        Answer::NotWellFormed => 0,
+        Answer::NoRoom => 0,
+    }
+}
+
+// The stem of the word in front of the output, and how many bytes it has: none on refusal, and the output is then as it was.
+fn stem_front(word: &[u8], out: &mut [u8]) -> usize
+    ensures { λ r. ⌜ r ≡ countOf (stemAnswer (now (word .entry)) (length (now (out .entry)))) ⌝ }
+    ensures { λ r. ⌜ now (out .exit) ≡ outAfter (stemAnswer (now (word .entry)) (length (now (out .entry)))) (stemBytes (now (word .entry))) (now (out .entry)) ⌝ }
+{
+    let a = stem(word, out);
+    count_of(a)
+}
+
+// The stem of the word as the front part of the output, and an empty part on refusal. It gives no code. No contract can speak of the
+// output behind a part that is handed back: `stem_front` does all that is done to the output, and says it.
 pub fn stem_part<'a>(word: &[u8], out: &'a mut [u8]) -> &'a mut [u8]
     ensures { λ r. ⌜ now r ≡ partAfter (answer stem (now (word .entry)) (length (now (out .entry)))) (bytesOf stem (now (word .entry))) ⌝ }
     ensures { λ r. ⌜ r .ptr ≡ out .entry .ptr ⌝ }
 {
-    let a = stem(word, out);
-    match a {
-        Answer::Done(count) => &mut out[..count],
-        Answer::TooLong => &mut out[..0],
-        Answer::NotWellFormed => &mut out[..0],
-        Answer::NoRoom => &mut out[..0],
-    }
+    let n = stem_front(word, out);
+    &mut out[..n]
 }
 
 // The word normalised: item 2 alone. An output of 340 bytes is always long enough.

@@ -2,11 +2,12 @@
 use Prim.Native.Nat.{_-_, _≤_}
 use native.Mathlib.Omega.{arith}
 use borrow.Author.Needs.{needs}
+use Rattle.edges.specs.Sizes.{space}
 use Rattle.edges.proofs.write_rest.Statement.{statement}
 use Rattle.edges.proofs.write_rest.Tie as tie
 
 abbrev Inv-loop : tie.InvT-loop
-Inv-loop out room i₀ t5 i-end i = (i ≤ i-end) × (i-end ≤ 400)
+Inv-loop out room i₀ t5 i-end i = (i ≤ i-end) × (i-end ≤ space)
 
 abbrev μ-loop : tie.MeasureT-loop
 μ-loop out room i₀ t5 i-end i = i-end - i
