@@ -34,18 +34,6 @@ pub const LONGEST: usize = 255;
 // An output of so many bytes is long enough for every result.
 pub const ROOM: usize = 340;
 
-// Copies the first n bytes of text to the front of out. The bytes of out behind them stay.
-fn copy_front(text: &[u8], n: usize, out: &mut [u8])
-    requires { ⌜ (n ≤ length (now text)) × (n ≤ length (now out)) ⌝ }
-    ensures { λ _. ⌜ now (out .exit) ≡ take n (now (text .entry)) ++ drop n (now (out .entry)) ⌝ }
-{
-    let mut i = 0;
-    while i < n {
-        out[i] = text[i];
-        i += 1;
-    }
-}
-
 // Writes the first n bytes of text to the front of out, if out has room for them.
 fn deliver(text: &[u8], n: usize, out: &mut [u8]) -> Answer
     requires { ⌜ n ≤ length (now text) ⌝ }
@@ -55,7 +43,7 @@ fn deliver(text: &[u8], n: usize, out: &mut [u8]) -> Answer
     if n > out.len() {
         return Answer::NoRoom;
     }
-    copy_front(text, n, out);
+    bytes::copy(&text[..n], out);
     Answer::Done(n)
 }
 
