@@ -8,7 +8,8 @@ use lib.Seq.{drop-drop, drop-append-seam, length-take-le}
 use Rattle.utf8.specs.Utf8.{Scalars, encode1, encode}
 use Rattle.utf8.proofs.Text.{encode1-pos}
 use Rattle.definition.specs.Words.{Word}
-use Rattle.arabic.specs.Bytes.{Encodes, LetterAt, SomeLetter}
+use Rattle.utf8.specs.Letters.{LetterAt, SomeLetter}
+use Rattle.arabic.specs.Bytes.{Encodes}
 
 -- from the place i to the limit stand the letters rest, and the bytes tail behind them
 pub record Ahead (text : List ℕ) (i limit : ℕ) (tail : List ℕ) (rest : Word) : Type 0 where

@@ -19,8 +19,8 @@ use Rattle.definition.proofs.Stays.{other-stays}
 use Rattle.definition.proofs.Finish.{other-last}
 use Rattle.definition.proofs.Match.{by}
 use Rattle.arabic.specs.Texts.{changed}
-use Rattle.arabic.proofs.Reading.{scalar-top}
-use Rattle.arabic.proofs.Stores.{size-2}
+use Rattle.utf8.proofs.ReadLetter.{scalar-top}
+use Rattle.utf8.proofs.WriteLetter.{size-2}
 use Rattle.arabic.proofs.Ahead.{cons-size}
 
 last-below : (c : ℕ) → c < 0x622 → last c ≡ c

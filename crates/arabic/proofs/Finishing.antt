@@ -14,8 +14,9 @@ use Rattle.definition.specs.Finish.{finish}
 use Rattle.definition.proofs.Finish.{other-last}
 use Rattle.definition.proofs.Match.{empty}
 use Rattle.snowball.specs.Search.{between}
-use Rattle.arabic.specs.Bytes.{Encodes, LetterFrom, SomeLetter, Read, Wrote}
-use Rattle.arabic.specs.declared.normalize.Letter.{Letter}
+use Rattle.utf8.specs.Letters.{SomeLetter, Read, Wrote}
+use Rattle.arabic.specs.Bytes.{Encodes, LetterFrom}
+use Rattle.utf8.specs.declared.letters.Letter.{Letter}
 use Rattle.arabic.specs.Texts.{changed, Finished}
 use Rattle.arabic.proofs.Changes.{changed-size, changed-top}
 use Rattle.arabic.proofs.Ahead as ahead

@@ -6,8 +6,6 @@ pub mod Items
 pub mod LastLetter
 pub mod Nest
 pub mod Repeat
-pub mod Reading
-pub mod Stores
 pub mod Table
 pub mod Halving
 pub mod Gives

@@ -8,6 +8,8 @@ use Rattle.utf8.specs.Utf8.{encode}
 use Rattle.definition.specs.Words.{Word}
 use Rattle.definition.specs.Normal.{normalise}
 use Rattle.definition.specs.Finish.{finish}
+use Rattle.snowball.specs.Stands.{workSize}
+use Rattle.arabic.specs.Texts.{longestWord}
 use Rattle.arabic.specs.Rows.{classes, rowOf, classOf, rightTable}
 use Rattle.arabic.proofs.Table.{right-table, class-at, normalise-grows}
 use Rattle.arabic.proofs.Changes.{finish-size}
@@ -20,7 +22,7 @@ main-table = right-table
 pub main-grows : (w : Word) → 3 * length (encode (normalise w)) ≤ 4 * length (encode w)
 main-grows = normalise-grows
 
-pub main-fits : (w : Word) → length (encode w) ≤ 255 → length (encode (normalise w)) ≤ 340
+pub main-fits : (w : Word) → length (encode w) ≤ longestWord → length (encode (normalise w)) ≤ workSize
 main-fits w h = omega (arith, normalise-grows w)
 
 -- item 5 keeps the number of bytes

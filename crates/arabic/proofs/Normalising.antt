@@ -9,11 +9,12 @@ use Rattle.utf8.specs.Utf8.{encode1, encode}
 use Rattle.utf8.proofs.Text.{encode-append, encode-injective}
 use Rattle.definition.specs.Words.{Word}
 use Rattle.definition.specs.Normal.{given, normal, normalise}
-use Rattle.arabic.specs.Bytes.{Encodes, SomeLetter, Read, Wrote}
-use Rattle.arabic.specs.declared.normalize.Letter.{Letter}
+use Rattle.utf8.specs.Letters.{SomeLetter, Read, Wrote}
+use Rattle.arabic.specs.Bytes.{Encodes}
+use Rattle.utf8.specs.declared.letters.Letter.{Letter}
 use Rattle.arabic.specs.Rows.{classes, rowOf, classOf}
 use Rattle.arabic.specs.Texts.{Normalised}
-use Rattle.arabic.proofs.Reading.{scalar-top}
+use Rattle.utf8.proofs.ReadLetter.{scalar-top}
 use Rattle.arabic.proofs.Table.{grows, class-at, class-small, normal-class}
 use Rattle.arabic.proofs.Ahead as ahead
 use Rattle.arabic.proofs.Ahead.{Ahead, Next}

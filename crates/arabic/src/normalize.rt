@@ -7,138 +7,22 @@ use snowball::among::find_among;
 use snowball::among::find_among_b;
 use snowball::among::wide;
 use snowball::env::Env;
+use snowball::env::WORK_SIZE;
+use utf8::letters::put_letter;
+use utf8::letters::read_letter;
 ghost use mathlib.Core.Path.{_≡_};
-ghost use Prim.Native.Nat.{_+_, _-_, _*_, _%_, _<_, _≤_};
+ghost use Prim.Native.Nat.{_+_, _<_, _≤_};
 ghost use lib.ListN.{length, take, getD};
 ghost use Rattle.definition.specs.Words.{Word};
 ghost use Rattle.definition.specs.Normal.{given, normalise};
 ghost use Rattle.definition.specs.Finish.{last, other, finish};
-ghost use Rattle.utf8.specs.Utf8.{encode1, encode};
+ghost use Rattle.utf8.specs.Utf8.{encode};
+ghost use Rattle.utf8.specs.Letters.{Wrote};
 ghost use Rattle.snowball.specs.Chars.{Chars, started};
-ghost use Rattle.snowball.specs.Stands.{Stands, Holds};
-ghost use Rattle.arabic.specs.Bytes.{Encodes, Spelt, LetterFrom, SomeLetter, Read, Wrote};
+ghost use Rattle.snowball.specs.Stands.{workSize, Stands, Holds};
+ghost use Rattle.arabic.specs.Bytes.{Encodes, Spelt, LetterFrom};
 ghost use Rattle.arabic.specs.Rows.{keys, classes, rowOf, packedGives};
-ghost use Rattle.arabic.specs.Texts.{Normalised, Finished, changed};
-
-// A letter as a number, and how many bytes it has.
-struct Letter {
-    code: u32,
-    width: usize,
-}
-
-// The byte as a u32, the type of a letter's number.
-fn code_of(b: u8) -> u32
-    ensures { λ r. ⌜ r ≡ b ⌝ }
-{
-    b as u32
-}
-
-// The six bits of a byte behind a letter's first.
-fn bits(b: u8) -> u32
-    requires { ⌜ 0x80 ≤ b ⌝ }
-    ensures { λ r. ⌜ r ≡ b - 0x80 ⌝ }
-{
-    code_of(b) - 0x80
-}
-
-// The letter of two bytes.
-fn two(a: u8, b: u8) -> u32
-    requires { ⌜ (0xC0 ≤ a) × (0x80 ≤ b) ⌝ }
-    ensures { λ r. ⌜ r ≡ (a - 0xC0) * 64 + (b - 0x80) ⌝ }
-{
-    (code_of(a) - 0xC0) * 64 + bits(b)
-}
-
-// The letter of three bytes.
-fn three(a: u8, b: u8, c: u8) -> u32
-    requires { ⌜ (0xE0 ≤ a) × (0x80 ≤ b) × (0x80 ≤ c) ⌝ }
-    ensures { λ r. ⌜ r ≡ ((a - 0xE0) * 64 + (b - 0x80)) * 64 + (c - 0x80) ⌝ }
-{
-    ((code_of(a) - 0xE0) * 64 + bits(b)) * 64 + bits(c)
-}
-
-// The letter of four bytes.
-fn four(a: u8, b: u8, c: u8, d: u8) -> u32
-    requires { ⌜ (0xF0 ≤ a) × (0x80 ≤ b) × (0x80 ≤ c) × (0x80 ≤ d) ⌝ }
-    ensures { λ r. ⌜ r ≡ (((a - 0xF0) * 64 + (b - 0x80)) * 64 + (c - 0x80)) * 64 + (d - 0x80) ⌝ }
-{
-    (((code_of(a) - 0xF0) * 64 + bits(b)) * 64 + bits(c)) * 64 + bits(d)
-}
-
-// The letter that starts at the cursor.
-fn read_letter(text: &[u8], cursor: usize) -> Letter
-    requires { ⌜ SomeLetter (now text) cursor ⌝ }
-    ensures { λ r. ⌜ Read (now (text .entry)) cursor r ⌝ }
-{
-    let a = text[cursor];
-    if a < 0x80 {
-        return Letter {
-            code: code_of(a),
-            width: 1,
-        };
-    }
-    let b = text[cursor + 1];
-    if a < 0xE0 {
-        return Letter {
-            code: two(a, b),
-            width: 2,
-        };
-    }
-    let c = text[cursor + 2];
-    if a < 0xF0 {
-        return Letter {
-            code: three(a, b, c),
-            width: 3,
-        };
-    }
-    let d = text[cursor + 3];
-    Letter {
-        code: four(a, b, c, d),
-        width: 4,
-    }
-}
-
-// A letter's first byte: the mark of its length, and its highest bits.
-fn lead(mark: u32, high: u32) -> u8
-    requires { ⌜ mark + high < 256 ⌝ }
-    ensures { λ r. ⌜ r ≡ mark + high ⌝ }
-{
-    (mark + high) as u8
-}
-
-// A byte behind a letter's first, with six bits of it.
-fn trail(x: u32) -> u8
-    ensures { λ r. ⌜ r ≡ 0x80 + x % 64 ⌝ }
-{
-    (0x80 + x % 64) as u8
-}
-
-// Writes the letter c into out from the byte at on. The answer is the place behind it.
-fn put_letter(out: &mut [u8; 340], at: usize, c: u32) -> usize
-    requires { ⌜ (at + length (encode1 c) ≤ 340) × (c < 0x110000) × (length (now out) ≡ 340) ⌝ }
-    ensures { λ r. ⌜ Wrote (now (out .entry)) at (encode1 c) (now (out .exit)) r ⌝ }
-{
-    if c < 0x80 {
-        out[at] = lead(0, c);
-        return at + 1;
-    }
-    if c < 0x800 {
-        out[at] = lead(0xC0, c / 64);
-        out[at + 1] = trail(c);
-        return at + 2;
-    }
-    if c < 0x10000 {
-        out[at] = lead(0xE0, c / 4096);
-        out[at + 1] = trail(c / 64);
-        out[at + 2] = trail(c);
-        return at + 3;
-    }
-    out[at] = lead(0xF0, c / 262144);
-    out[at + 1] = trail(c / 4096);
-    out[at + 2] = trail(c / 64);
-    out[at + 3] = trail(c);
-    at + 4
-}
+ghost use Rattle.arabic.specs.Texts.{longestWord, Normalised, Finished, changed};
 
 // The row of A_0 whose letter is c, and 161 where there is none.
 fn row_of(rows: &[u32; 161], c: u32) -> usize
@@ -191,9 +75,9 @@ fn given_number(class: usize) -> u32
 }
 
 // Writes what stands for the letter c, whose row has this class. The answer is the place behind it.
-fn give_listed(class: usize, c: u32, out: &mut [u8; 340], at: usize) -> usize
+fn give_listed(class: usize, c: u32, out: &mut [u8; WORK_SIZE], at: usize) -> usize
     requires { ⌜ (class < 56) × (0 < class) ⌝ }
-    requires { ⌜ (at + length (encode (given c class)) ≤ 340) × (length (now out) ≡ 340) ⌝ }
+    requires { ⌜ (at + length (encode (given c class)) ≤ workSize) × (length (now out) ≡ workSize) ⌝ }
     ensures { λ r. ⌜ Wrote (now (out .entry)) at (encode (given c class)) (now (out .exit)) r ⌝ }
 {
     let v = given_number(class);
@@ -208,9 +92,9 @@ fn give_listed(class: usize, c: u32, out: &mut [u8; 340], at: usize) -> usize
 }
 
 // Writes what stands for the letter c, whose row has this class; with class 0, for no row, c itself.
-fn give(class: usize, c: u32, out: &mut [u8; 340], at: usize) -> usize
+fn give(class: usize, c: u32, out: &mut [u8; WORK_SIZE], at: usize) -> usize
     requires { ⌜ (class < 56) × (c < 0x110000) ⌝ }
-    requires { ⌜ (at + length (encode (given c class)) ≤ 340) × (length (now out) ≡ 340) ⌝ }
+    requires { ⌜ (at + length (encode (given c class)) ≤ workSize) × (length (now out) ≡ workSize) ⌝ }
     ensures { λ r. ⌜ Wrote (now (out .entry)) at (encode (given c class)) (now (out .exit)) r ⌝ }
 {
     if class == 0 {
@@ -221,9 +105,9 @@ fn give(class: usize, c: u32, out: &mut [u8; 340], at: usize) -> usize
 
 // The loop of r_Normalize_pre, from the first limit bytes of text into out. The answer is the number of bytes written. The
 // Rust replaces each letter within the text, which moves all that is behind it.
-fn normalize_text(text: &[u8], limit: usize, out: &mut [u8; 340]) -> usize
+fn normalize_text(text: &[u8], limit: usize, out: &mut [u8; WORK_SIZE]) -> usize
     requires { ⌜ Spelt (now text) limit ⌝ }
-    requires { ⌜ (limit ≤ 255) × (length (now out) ≡ 340) ⌝ }
+    requires { ⌜ (limit ≤ longestWord) × (length (now out) ≡ workSize) ⌝ }
     ensures { λ r. ⌜ ((cs : Word) → Encodes (take limit (now (text .entry))) cs → Normalised cs (now (out .exit)) r) ⌝ }
 {
     let rows = A_0_KEYS;
@@ -243,11 +127,11 @@ fn normalize_text(text: &[u8], limit: usize, out: &mut [u8; 340]) -> usize
 // cursor at the end and its caller sets it back; here it stays in front, and bra and ket are those of a new environment.
 // The Rust's answer, which is always true, is left out.
 pub fn r_Normalize_pre(env: Env) -> Env
-    requires { ⌜ Holds env × (env .limit ≤ 255) ⌝ }
+    requires { ⌜ Holds env × (env .limit ≤ longestWord) ⌝ }
     ensures { λ r. ⌜ ((w : Word) → Stands env (started w) → Stands r (started (normalise w))) ⌝ }
 {
     let limit = env.limit;
-    let mut text = [0u8; 340];
+    let mut text = [0u8; WORK_SIZE];
     let end = normalize_text(&env.current, limit, &mut text);
     Env {
         cursor: 0,
@@ -324,9 +208,9 @@ fn changed_of(text: &[u8], cursor: usize, end: usize, c: u32, ending: bool) -> u
 }
 
 // The loop of r_Normalize_post over the first limit bytes of text, in place: no letter changes its length.
-fn finish_text(text: &mut [u8; 340], limit: usize, i_word_len: usize)
+fn finish_text(text: &mut [u8; WORK_SIZE], limit: usize, i_word_len: usize)
     requires { ⌜ ((cs : Word) × Encodes (take limit (now text)) cs × (length cs ≤ «i_word_len»)) ⌝ }
-    requires { ⌜ (limit ≤ 340) × (length (now text) ≡ 340) ⌝ }
+    requires { ⌜ (limit ≤ workSize) × (length (now text) ≡ workSize) ⌝ }
     ensures { λ _. ⌜ ((cs : Word) → Encodes (take limit (now (text .entry))) cs → Finished cs (now (text .exit)) limit) ⌝ }
 {
     let mut cursor = 0;

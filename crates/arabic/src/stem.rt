@@ -18,6 +18,7 @@ ghost use Rattle.definition.specs.Stem.{stemOf, stem};
 ghost use Rattle.snowball.specs.Chars.{started};
 ghost use Rattle.snowball.specs.Stands.{Stands};
 ghost use Rattle.arabic.specs.Kinds.{kindOf};
+ghost use Rattle.arabic.specs.Texts.{longestWord};
 
 // Item 3: the endings, backward from the end of the text. The cursor then goes back to the front.
 fn cut_endings(env: Env, b_is_defined: bool) -> Env
@@ -57,7 +58,7 @@ pub fn finish_letters(env: Env) -> Env
 
 // Items 2 to 5, for a word of up to 255 bytes whose kind is known.
 fn stem_of(env: Env, context: Context) -> Env
-    requires { ⌜ ((w : Word) × Stands env (started w)) × (env .limit ≤ 255) ⌝ }
+    requires { ⌜ ((w : Word) × Stands env (started w)) × (env .limit ≤ longestWord) ⌝ }
     ensures { λ r. ⌜ ((w : Word) → Stands env (started w) → Stands r (started (stemOf (kindOf (context .«b_is_defined»)) (normalise w)))) ⌝ }
 {
     let n = r_Normalize_pre(env);
@@ -69,7 +70,7 @@ fn stem_of(env: Env, context: Context) -> Env
 
 // The Rust's stem, on a new environment for a word of up to 255 bytes.
 pub fn stem(env: Env) -> Env
-    requires { ⌜ ((w : Word) × Stands env (started w)) × (env .limit ≤ 255) ⌝ }
+    requires { ⌜ ((w : Word) × Stands env (started w)) × (env .limit ≤ longestWord) ⌝ }
     ensures { λ r. ⌜ ((w : Word) → Stands env (started w) → Stands r (started (stem w))) ⌝ }
 {
     let limit = env.limit;

@@ -8,12 +8,16 @@ use Rattle.utf8.specs.Places.{size, At}
 use Rattle.snowball.specs.Chars.{Chars, sliceFrom}
 use Rattle.snowball.specs.declared.env.Env.{Env}
 
+-- the bytes of the work array
+abbrev pub workSize : ℕ
+workSize = 340
+
 -- The first limit bytes encode the text, and at and behind are the bytes at which its cursor and its back lie.
 pub record Standing (current : List ℕ) (limit at behind : ℕ) (s : Chars) : Type 0 where
   pub scalars : Scalars (s .text)
   pub bytes : take limit current ≡ encode (s .text)
   pub sized : limit ≡ size (s .text)
-  pub within : limit ≤ 340
+  pub within : limit ≤ workSize
   pub cursor : At (s .text) (s .cursor) at
   pub back : At (s .text) (s .back) behind
 

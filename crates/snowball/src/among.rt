@@ -1,3 +1,4 @@
+// The Rust's among.rs, and the two searches of snowball_env.rs.
 ghost use mathlib.Core.Path.{_≡_};
 ghost use mathlib.Core.Bool.{true};
 ghost use mathlib.Core.List.{List, [], reverse};
@@ -8,7 +9,7 @@ ghost use Rattle.definition.specs.Words.{Word, beginsWith, endsWith};
 ghost use Rattle.definition.specs.Tables.{Table};
 ghost use Rattle.definition.specs.Search.{longest};
 ghost use Rattle.utf8.specs.Utf8.{Scalars, encode};
-ghost use Rattle.snowball.specs.Rows.{keys, keysBack, before, rowsOf, byteTable, plain, ordered, wellFormed};
+ghost use Rattle.snowball.specs.Rows.{keys, keysBack, noLink, before, rowsOf, byteTable, plain, ordered, wellFormed};
 ghost use Rattle.snowball.specs.Search.{lcp, between, behind, Halved, Walked, Ahead, Behind, AheadBytes, BehindBytes};
 
 // What a comparison of the text with one row tells: how many bytes are the same, and whether the text comes before the row.
@@ -230,7 +231,7 @@ fn halve_b(
 // The walk over the back links from row i: the first row that is wholly in the text, or the number of rows where none is.
 fn walk(i: usize, common: usize, lens: &[u8], links: &[u8]) -> usize
     requires { ⌜ (i < length (now lens)) × (length (now links) ≡ length (now lens)) ⌝ }
-    requires { ⌜ ((k : ℕ) → k < length (now lens) → (getD (now links) k 0 ≡ 255 → ⊥) → getD (now links) k 0 < k) ⌝ }
+    requires { ⌜ ((k : ℕ) → k < length (now lens) → (getD (now links) k 0 ≡ noLink → ⊥) → getD (now links) k 0 < k) ⌝ }
     ensures { λ r. ⌜ Walked (now (lens .entry)) (now (links .entry)) common i r ⌝ }
 {
     if wide(lens[i]) <= common {

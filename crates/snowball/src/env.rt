@@ -1,3 +1,4 @@
+// The Rust's snowball_env.rs: the environment, and the functions that the Arabic steps call.
 ghost use mathlib.Core.Path.{_≡_};
 ghost use mathlib.Core.List.{List, []};
 ghost use mathlib.Core.Bool.{true};
@@ -9,8 +10,11 @@ ghost use Rattle.utf8.specs.Utf8.{Scalars, encode};
 ghost use Rattle.utf8.specs.Places.{starts, leads, NextStart, LastStart};
 ghost use Rattle.snowball.specs.Match.{standsAt};
 ghost use Rattle.snowball.specs.Chars.{Chars, started, withCursor, eqS};
-ghost use Rattle.snowball.specs.Stands.{Stands, Holds, SameMarks, Sliced};
+ghost use Rattle.snowball.specs.Stands.{workSize, Stands, Holds, SameMarks, Sliced};
 ghost use Rattle.snowball.specs.Bytes.{Created, Replaced};
+
+// The bytes of the work array: a word of 255 bytes has at most so many when it is normalised.
+pub const WORK_SIZE: usize = 340;
 
 // The Rust's SnowballEnv: a text, and places in it. The text is the first limit bytes of current: in the Rust limit is
 // always the length of current where Arabic is stemmed.
@@ -20,7 +24,7 @@ pub struct Env {
     pub limit_backward: usize,
     pub bra: usize,
     pub ket: usize,
-    pub current: [u8; 340],
+    pub current: [u8; WORK_SIZE],
 }
 
 // An environment, and whether what was asked for was found in it.
@@ -30,8 +34,8 @@ pub struct Matched {
 }
 
 // The Rust's push_str, into an array: text[from..to] is copied to out from the index at on.
-fn put(out: &mut [u8; 340], at: usize, text: &[u8], from: usize, to: usize)
-    requires { ⌜ (length (now out) ≡ 340) × (from ≤ to) × (to ≤ length (now text)) × (at + (to - from) ≤ 340) ⌝ }
+fn put(out: &mut [u8; WORK_SIZE], at: usize, text: &[u8], from: usize, to: usize)
+    requires { ⌜ (length (now out) ≡ workSize) × (from ≤ to) × (to ≤ length (now text)) × (at + (to - from) ≤ workSize) ⌝ }
     ensures { λ _. ⌜ now (out .exit) ≡ paste (now (out .entry)) at (slice from to (now (text .entry))) (to - from) ⌝ }
 {
     let n = to - from;
@@ -145,11 +149,11 @@ pub fn stands_at(text: &[u8], cursor: usize, limit: usize, key: &[u8]) -> bool
 impl Env {
     // The Rust's create: the word's bytes, with the cursor in front and the whole word from bra to ket.
     pub fn create(word: &[u8]) -> Env
-        requires { ⌜ length (now word) ≤ 340 ⌝ }
+        requires { ⌜ length (now word) ≤ workSize ⌝ }
         ensures { λ r. ⌜ Created (now (word .entry)) r × ((cs : List ℕ) → Scalars cs → now (word .entry) ≡ encode cs → Stands r (started cs)) ⌝ }
     {
         let len = word.len();
-        let mut current = [0u8; 340];
+        let mut current = [0u8; WORK_SIZE];
         put(&mut current, 0, word, 0, len);
         Env {
             cursor: 0,
@@ -164,8 +168,8 @@ impl Env {
     // The Rust's replace_s: the bytes from bra to ket are replaced by s. A cursor at ket or behind it moves with the
     // text, one strictly inside goes to bra, any other stays.
     fn replace_s(mut self, bra: usize, ket: usize, s: &[u8]) -> Env
-        requires { ⌜ (self .limit ≤ 340) × (self .cursor ≤ self .limit) × (bra ≤ ket) × (ket ≤ self .limit)
-            × (self .limit - (ket - bra) + length (now s) ≤ 340) ⌝ }
+        requires { ⌜ (self .limit ≤ workSize) × (self .cursor ≤ self .limit) × (bra ≤ ket) × (ket ≤ self .limit)
+            × (self .limit - (ket - bra) + length (now s) ≤ workSize) ⌝ }
         ensures { λ r. ⌜ Replaced self bra ket (now (s .entry)) r ⌝ }
     {
         let limit = self.limit;
@@ -188,7 +192,7 @@ impl Env {
     // The Rust's slice_from: the letters from bra to ket are replaced by those of s.
     pub fn slice_from(self, s: &[u8]) -> Env
         requires { ⌜ Holds self × (self .bra ≤ self .ket) × (self .ket ≤ self .limit)
-            × (self .limit - (self .ket - self .bra) + length (now s) ≤ 340) ⌝ }
+            × (self .limit - (self .ket - self .bra) + length (now s) ≤ workSize) ⌝ }
         ensures { λ r. ⌜ SameMarks self r × ((cs : List ℕ) → Scalars cs → now (s .entry) ≡ encode cs → Sliced self cs r) ⌝ }
     {
         let bra = self.bra;

@@ -1,3 +1,6 @@
+// UTF-8: whether bytes are well formed, and single letters in bytes.
+pub mod letters;
+
 ghost use mathlib.Core.Path.{_≡_};
 ghost use Rattle.definition.specs.Words.{pick};
 ghost use Rattle.utf8.specs.Utf8.{first, wellFormed};

@@ -44,7 +44,7 @@ put-letter-requires c κs =
     let l = c .before .before .before .before .before .read-letter in
     let k = c .before .changed-of in
     let r = room v (omega arith) (l .result) (l .ensures) (k .result) (k .ensures) in
-    (omega (arith, p .1 .0), code-top v (omega arith) (l .result) (l .ensures) (k .result) (k .ensures), v .size)
+    (omega (arith, p .1 .0, v .size), code-top v (omega arith) (l .result) (l .ensures) (k .result) (k .ensures))
 
 add-counter : tie.Need-add-counter Inv-loop μ-loop
 add-counter c = omega arith

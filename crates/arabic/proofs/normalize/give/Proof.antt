@@ -17,7 +17,7 @@ put-letter-requires c κs =
     let a = s .args in
     let p = s .pre in
     let e = give-kept (a .c) (a .class) (c .before .if1 .taken) in
-    (omega (arith, ap length e), p .0 .1, p .1 .1)
+    (omega (arith, ap length e, p .1 .1), p .0 .1)
 
 returns : tie.Need-returns
 returns c =

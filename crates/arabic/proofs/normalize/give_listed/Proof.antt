@@ -2,7 +2,7 @@
 use mathlib.Core.Path.{ap, _∙_}
 use native.Mathlib.Omega.{arith}
 use lib.ListN.{length, length-append}
-use Rattle.arabic.proofs.Stores.{wrote-none, wrote-both}
+use Rattle.utf8.proofs.WriteLetter.{wrote-none, wrote-both}
 use Rattle.arabic.proofs.Gives.{give-none, give-one, give-two, give-small}
 use borrow.Author.Needs.{needs}
 use Rattle.arabic.proofs.normalize.give_listed.Statement.{statement}
@@ -24,7 +24,7 @@ put-letter-requires c κs =
     let s = c .before .before .before .before in
     let a = s .args in
     let e = give-one (a .c) (a .class) (n .result) (n .ensures) (s .pre .0 .0) (λ z. omega arith) (c .before .before .if1 .left) (c .before .if2 .taken) in
-    (omega (arith, ap length e), omega arith, s .pre .1 .1)
+    (omega (arith, ap length e, s .pre .1 .1), omega arith)
 
 returns-2 : tie.Need-returns-2
 returns-2 c =
@@ -40,7 +40,7 @@ put-letter-requires-2 c κs =
     let s = c .before .before .before .before in
     let a = s .args in
     let e = give-two (a .c) (a .class) (n .result) (n .ensures) (s .pre .0 .0) (λ z. omega arith) (c .before .if2 .left) in
-    (omega (arith, simp length-append at (ap length e)), omega arith, s .pre .1 .1)
+    (omega (arith, simp length-append at (ap length e), s .pre .1 .1), omega arith)
 
 put-letter-requires-3 : tie.Need-put-letter-requires-3
 put-letter-requires-3 c κs =
@@ -49,9 +49,8 @@ put-letter-requires-3 c κs =
     let a = s .args in
     let e = give-two (a .c) (a .class) (n .result) (n .ensures) (s .pre .0 .0) (λ z. omega arith) (c .before .before .before .if2 .left) in
     let u = c .before .put-letter2 .ensures in (
-      omega (arith, simp length-append at (ap length e)),
+      omega (arith, simp length-append at (ap length e), u .size, s .pre .1 .1),
       omega (arith, give-small (a .c) (a .class) (n .result) (n .ensures) (s .pre .0 .0) (λ z. omega arith)),
-      u .size ∙ s .pre .1 .1,
     )
 
 returns-3 : tie.Need-returns-3

@@ -5,9 +5,9 @@ use mathlib.Core.List.{List, [], _∷_, _++_, append-assoc, append-nil}
 use native.Mathlib.Omega.{arith}
 use lib.ListN.{length, take, drop, set, length-append}
 use lib.Seq.{drop-drop, sets, sets-eq, length-sets, take-at, drop-at, length-take-le}
 use Rattle.utf8.specs.Utf8.{encode1}
 use Rattle.utf8.proofs.Encoding.{encode1-1, encode1-2, encode1-3, encode1-4}
-use Rattle.arabic.specs.Bytes.{Wrote}
+use Rattle.utf8.specs.Letters.{Wrote}
 
 module _ (old : List ℕ) (at : ℕ) (bs : List ℕ) (h : at + length bs ≤ length old) where
   long : length (take at old ++ bs) ≡ at + length bs

@@ -7,10 +7,10 @@ use native.Mathlib.Omega.{arith}
 use lib.ListN.{length, getD, length-append, length-drop}
 use lib.Seq.{getD-drop}
 use Rattle.definition.proofs.Match.{by-le}
 use Rattle.utf8.specs.Utf8.{Scalar, encode1}
 use Rattle.utf8.proofs.Encoding.{encode1-1, encode1-2, encode1-3, encode1-4}
 use Rattle.utf8.proofs.Text.{encode1-pos}
-use Rattle.arabic.specs.Bytes.{SomeLetter}
+use Rattle.utf8.specs.Letters.{SomeLetter}
 
 pub scalar-top : (c : ℕ) → Scalar c → c < 0x110000
 scalar-top c s = ⊎-elim (λ (w : c < 0xD800). omega arith) (λ (w : (0xE000 ≤ c) × (c < 0x110000)). w .1) s

@@ -1,9 +1,9 @@
--- `normalize::read_letter` meets its contract: the letter is read off its bytes, whose number the first one tells. Assumes nothing.
+-- `letters::read_letter` meets its contract: the letter is read off its bytes, whose number the first one tells. Assumes nothing.
 use native.Mathlib.Omega.{arith}
-use Rattle.arabic.proofs.Reading.{room-1, room-2, room-3, room-4, marks-2, marks-3, marks-4, reads-1, reads-2, reads-3, reads-4}
+use Rattle.utf8.proofs.ReadLetter.{room-1, room-2, room-3, room-4, marks-2, marks-3, marks-4, reads-1, reads-2, reads-3, reads-4}
 use borrow.Author.Needs.{needs}
-use Rattle.arabic.proofs.normalize.read_letter.Statement.{statement}
-use Rattle.arabic.proofs.normalize.read_letter.Tie as tie
+use Rattle.utf8.proofs.letters.read_letter.Statement.{statement}
+use Rattle.utf8.proofs.letters.read_letter.Tie as tie
 
 shared-slice-read-a : tie.Need-shared-slice-read-a
 shared-slice-read-a c =
