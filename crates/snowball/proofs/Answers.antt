@@ -16,13 +16,13 @@ use Rattle.definition.proofs.Found.{Found, longest-found, row-behind, no-letter
 use Rattle.definition.proofs.Unique.{longest-at, longest-none}
 use Rattle.utf8.specs.Utf8.{Scalars, encode}
 use Rattle.utf8.specs.Places.{size}
-use Rattle.snowball.specs.Rows.{keys, keysBack, begins, wellFormed, rowsOf, byteTable, low, plain}
+use Rattle.snowball.specs.Rows.{keys, keysBack, begins, wellFormed, rowsOf, byteTable, low, plain, AllScalars}
 use Rattle.snowball.specs.Search.{between, behind, Halved, Walked}
 use Rattle.snowball.proofs.Order.{Begins, begins-true, true-begins}
 use Rattle.snowball.proofs.Table as table
 use Rattle.snowball.proofs.Read.{keys-length, keys-at, keys-back-length, keys-back-at}
 use Rattle.snowball.proofs.Longest.{Longest, Nothing, found}
-use Rattle.snowball.proofs.Bytes.{AllScalars, byte-row, byte-class, ahead-bytes, behind-bytes, ends-reverse}
+use Rattle.snowball.proofs.Bytes.{byte-row, byte-class, ahead-bytes, behind-bytes, ends-reverse}
 
 -- ---- the test of the tables' keys is the definition's test
 eqb-sym : (x y : ℕ) → eqb x y ≡ eqb y x

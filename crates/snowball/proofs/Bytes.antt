@@ -17,7 +17,7 @@ use Rattle.utf8.specs.Utf8.{Scalars, encode}
 use Rattle.utf8.specs.Places.{size}
 use Rattle.utf8.proofs.Places.{size-append, size-mono, size-strict}
 use Rattle.utf8.proofs.Matches.{iff, front-bytes, end-bytes}
-use Rattle.snowball.specs.Rows.{byteRow, byteTable}
+use Rattle.snowball.specs.Rows.{byteRow, byteTable, AllScalars}
 
 -- ---- of two keys at one place the longer in letters is the longer in bytes
 same-order : (a b c d : ℕ) → (a ≤ b → c ≤ d) → (b < a → d < c) → leb c d ≡ leb a b
@@ -52,10 +52,6 @@ end-order w a b p q =
     (λ h. omega (arith, size-strict w m n (omega arith) (omega arith)))
 
 -- ---- the table of bytes
-abbrev pub AllScalars : Table → Type 0
-AllScalars [] = Unit {0}
-AllScalars (k ∷ t) = Scalars (k .letters) × AllScalars t
-
 pub byte-row : (t : Table) (r : ℕ) → rowAt (byteTable t) r .letters ≡ encode (rowAt t r .letters)
 unfolding encode
 byte-row [] zero = refl
@@ -107,7 +103,7 @@ ahead-bytes w t s a = longest-bytes (beginsWith w) (beginsWith (encode w)) (λ k
 pub behind-bytes : (w : Word) (t : Table) → Scalars w → AllScalars t → longest (endsWith (encode w)) (byteTable t) ≡ longest (endsWith w) t
 behind-bytes w t s a = longest-bytes (endsWith w) (endsWith (encode w)) (λ k q. end-bytes w k s q) (end-order w) t a
 
--- a search that reads both backwards (the among crate's) tests the same
+-- a search that reads both backwards (the backward one of among) tests the same
 pub ends-reverse : (w key : Word) → beginsWith (reverse w) (reverse key) ≡ endsWith w key
 ends-reverse w key = iff (beginsWith (reverse w) (reverse key)) (endsWith w key)
     (λ e. let r : Word = drop (length (reverse key)) (reverse w) in

@@ -8,9 +8,9 @@ use Rattle.definition.specs.Words.{Word, beginsWith, endsWith}
 use Rattle.definition.specs.Tables.{Table}
 use Rattle.definition.specs.Search.{longest}
 use Rattle.utf8.specs.Utf8.{Scalars, encode}
-use Rattle.snowball.specs.Rows.{keys, keysBack, wellFormed, rowsOf, byteTable}
+use Rattle.snowball.specs.Rows.{keys, keysBack, wellFormed, rowsOf, byteTable, AllScalars}
 use Rattle.snowball.specs.Search.{between, behind, Halved, Walked}
-use Rattle.snowball.proofs.Bytes.{AllScalars, ahead-bytes, behind-bytes}
+use Rattle.snowball.proofs.Bytes.{ahead-bytes, behind-bytes}
 use Rattle.snowball.proofs.Answers.{row-ahead, row-behind-is}
 
 -- in every table that passes the test, the halving and the walk find the definition's longest row, forward and backward

@@ -6,7 +6,7 @@ use lib.ListN.{length, take, getD}
 use lib.Dec.{leb, ltb, eqb}
 use Rattle.definition.specs.Words.{Word, pick, both, every}
 use Rattle.definition.specs.Tables.{Row, Table}
-use Rattle.utf8.specs.Utf8.{encode}
+use Rattle.utf8.specs.Utf8.{Scalars, encode}
 
 -- the keys of a forward search: of each row as many bytes as its length says
 abbrev pub keys : List (List ℕ) → List ℕ → List (List ℕ)
@@ -91,6 +91,11 @@ byteRow k = record { letters = encode (k .letters); class = k .class }
 abbrev pub byteTable : Table → Table
 byteTable [] = []
 byteTable (k ∷ t) = byteRow k ∷ byteTable t
+
+-- all letters are scalar values
+abbrev pub AllScalars : Table → Type 0
+AllScalars [] = Unit {0}
+AllScalars (k ∷ t) = Scalars (k .letters) × AllScalars t
 
 -- a test of a table of letters: they are below D800, and so scalar values
 abbrev pub low : Word → Bool

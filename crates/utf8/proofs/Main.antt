@@ -5,11 +5,12 @@ use mathlib.Core.List.{List, [], _∷_}
 use mathlib.Core.Option.{some}
 use Prim.Native.Nat.{ℕ}
 use Rattle.definition.specs.Words.{Word, every, beginsWith, endsWith}
+use Rattle.utf8.specs.Samples.{accepted, refused}
 use Rattle.utf8.specs.Utf8.{Scalars, encode, decode, wellFormed}
 use Rattle.utf8.proofs.Encoding.{decode-encode}
 use Rattle.utf8.proofs.Text.{sound, well-formed-text, text-well-formed, encode-injective}
 use Rattle.utf8.proofs.Matches.{front-bytes, end-bytes}
-use Rattle.utf8.proofs.Samples.{accepted, refused, edges, one-letter}
+use Rattle.utf8.proofs.Samples.{edges, one-letter}
 
 -- every list of scalar values decodes from its encoding, and its encoding is well formed
 pub main-decodes : (cs : List ℕ) → Scalars cs → decode (encode cs) ≡ some cs
