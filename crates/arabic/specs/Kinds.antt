@@ -7,7 +7,12 @@ abbrev pub flags : WordKind → Kind
 flags OPEN = record { defined = false; verb = true; noun = true }
 flags DEFINED = record { defined = true; verb = false; noun = true }
 
--- the kind by the Rust's b_is_defined
+-- the kind by the Rust's b_is_verb
+abbrev pub kindByVerb : Bool → WordKind
+kindByVerb true = OPEN
+kindByVerb false = DEFINED
+
+-- and by its b_is_defined
 abbrev pub kindOf : Bool → WordKind
 kindOf true = DEFINED
 kindOf false = OPEN

@@ -11,7 +11,7 @@ use snowball::env::Env;
 ghost use Rattle.definition.specs.Words.{Word};
 ghost use Rattle.definition.specs.Fronts.{Fronting, prefixSteps, started};
 ghost use Rattle.arabic.specs.Fronts.{Fronts, ReadyFront, ReadyStart, GivesFront};
-ghost use Rattle.arabic.specs.Kinds.{kindOf};
+ghost use Rattle.arabic.specs.Kinds.{kindByVerb};
 ghost use Rattle.arabic.specs.Nests.{verbSteps};
 
 // Step3_Verb, whether it succeeds or not, and then Step4_Verb where the cursor stands.
@@ -28,7 +28,7 @@ fn verb_steps(env: Env, context: Context) -> Tried
 // Step1, Step2, and then the first of three alternatives; the last is for open words alone.
 pub fn prefixes(env: Env, context: Context) -> Tried
     requires { ⌜ ReadyStart env ⌝ }
-    ensures { λ r. ⌜ ((w : Word) → Fronts env (started w) → GivesFront r (prefixSteps (kindOf (context .«b_is_defined»)) (started w))) ⌝ }
+    ensures { λ r. ⌜ ((w : Word) → Fronts env (started w) → GivesFront r (prefixSteps (kindByVerb (context .«b_is_verb»)) (started w))) ⌝ }
 {
     let a = r_Prefix_Step1(env);
     let x = a.env;
@@ -43,9 +43,9 @@ pub fn prefixes(env: Env, context: Context) -> Tried
     if d.found {
         return d;
     }
-    if context.b_is_defined {
-        return d;
+    if context.b_is_verb {
+        let u = d.env;
+        return verb_steps(u, context);
     }
-    let u = d.env;
-    verb_steps(u, context)
+    d
 }

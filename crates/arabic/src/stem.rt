@@ -7,6 +7,7 @@ use crate::prefix_nest::prefixes;
 use crate::suffix_nest::suffixes;
 use snowball::env::Env;
 use snowball::env::count_chars;
+ghost use mathlib.Core.Path.{_≡_};
 ghost use Prim.Native.Nat.{_≤_};
 ghost use Rattle.definition.specs.Words.{Word};
 ghost use Rattle.definition.specs.Tries.{after};
@@ -17,19 +18,19 @@ ghost use Rattle.definition.specs.Finish.{finish};
 ghost use Rattle.definition.specs.Stem.{stemOf, stem};
 ghost use Rattle.snowball.specs.Chars.{started};
 ghost use Rattle.snowball.specs.Stands.{Stands};
-ghost use Rattle.arabic.specs.Kinds.{kindOf};
+ghost use Rattle.arabic.specs.Kinds.{kindByVerb, kindOf};
 ghost use Rattle.arabic.specs.Texts.{longestWord};
 
 // Item 3: the endings, backward from the end of the text. The cursor then goes back to the front.
-fn cut_endings(env: Env, b_is_defined: bool) -> Env
+fn cut_endings(env: Env, b_is_defined: bool, b_is_verb: bool) -> Env
     requires { ⌜ ((w : Word) × Stands env (started w)) ⌝ }
-    ensures { λ r. ⌜ ((w : Word) → Stands env (started w)
+    ensures { λ r. ⌜ (kindByVerb «b_is_verb» ≡ kindOf «b_is_defined» → (w : Word) → Stands env (started w)
         → Stands r (started (maqsuraIfFailed (endings (kindOf «b_is_defined») w) (after (endings (kindOf «b_is_defined») w) .text)))) ⌝ }
 {
     let mut e = env;
     e.limit_backward = e.cursor;
     e.cursor = e.limit;
-    let mut x = suffixes(e, b_is_defined);
+    let mut x = suffixes(e, b_is_defined, b_is_verb);
     x.cursor = x.limit_backward;
     x
 }
@@ -37,7 +38,7 @@ fn cut_endings(env: Env, b_is_defined: bool) -> Env
 // Item 4: the fronts. The cursor then goes back to the front.
 fn change_front(env: Env, context: Context) -> Env
     requires { ⌜ ((w : Word) × Stands env (started w)) ⌝ }
-    ensures { λ r. ⌜ ((w : Word) → Stands env (started w) → Stands r (started (text (fronts (kindOf (context .«b_is_defined»)) w)))) ⌝ }
+    ensures { λ r. ⌜ ((w : Word) → Stands env (started w) → Stands r (started (text (fronts (kindByVerb (context .«b_is_verb»)) w)))) ⌝ }
 {
     let cursor = env.cursor;
     let t = prefixes(env, context);
@@ -56,14 +57,15 @@ pub fn finish_letters(env: Env) -> Env
     r_Normalize_post(env, i_word_len)
 }
 
-// Items 2 to 5, for a word of up to 255 bytes whose kind is known.
+// Items 2 to 5, for a word of up to 255 bytes whose kind is known: the flags are those of one kind.
 fn stem_of(env: Env, context: Context) -> Env
-    requires { ⌜ ((w : Word) × Stands env (started w)) × (env .limit ≤ longestWord) ⌝ }
+    requires { ⌜ ((w : Word) × Stands env (started w)) × (env .limit ≤ longestWord) × (kindByVerb (context .«b_is_verb») ≡ kindOf (context .«b_is_defined»)) ⌝ }
     ensures { λ r. ⌜ ((w : Word) → Stands env (started w) → Stands r (started (stemOf (kindOf (context .«b_is_defined»)) (normalise w)))) ⌝ }
 {
     let n = r_Normalize_pre(env);
     let b_is_defined = context.b_is_defined;
-    let s = cut_endings(n, b_is_defined);
+    let b_is_verb = context.b_is_verb;
+    let s = cut_endings(n, b_is_defined, b_is_verb);
     let p = change_front(s, context);
     finish_letters(p)
 }

@@ -4,23 +4,24 @@ use crate::suffix_steps::r_Suffix_All_alef_maqsura;
 use crate::tried::Tried;
 use crate::verb_nest::verb;
 use snowball::env::Env;
+ghost use mathlib.Core.Path.{_≡_};
 ghost use Rattle.definition.specs.Words.{Word};
 ghost use Rattle.definition.specs.Tries.{Try, after, ifFailed};
 ghost use Rattle.definition.specs.Kind.{ifOpen};
 ghost use Rattle.definition.specs.Endings.{Cutting, verb, noun, endings, maqsuraIfFailed};
 ghost use Rattle.snowball.specs.Stands.{Stands};
 ghost use Rattle.arabic.specs.Endings.{Ends, Ready, Gives, Given, atEnd};
-ghost use Rattle.arabic.specs.Kinds.{kindOf};
+ghost use Rattle.arabic.specs.Kinds.{kindByVerb, kindOf};
 
 // If the word is open, the verb.
-fn open_verb(env: Env, b_is_defined: bool) -> Tried
+fn open_verb(env: Env, b_is_verb: bool) -> Tried
     requires { ⌜ Ready env ⌝ }
-    ensures { λ r. ⌜ ((v : Cutting) → Ends env v → Gives r (ifOpen (kindOf «b_is_defined») verb v)) ⌝ }
+    ensures { λ r. ⌜ ((v : Cutting) → Ends env v → Gives r (ifOpen (kindByVerb «b_is_verb») verb v)) ⌝ }
 {
-    if b_is_defined {
-        return Tried { found: false, env };
+    if b_is_verb {
+        return verb(env);
     }
-    verb(env)
+    Tried { found: false, env }
 }
 
 fn or_noun(t: Tried, b_is_defined: bool) -> Tried
@@ -34,13 +35,13 @@ fn or_noun(t: Tried, b_is_defined: bool) -> Tried
     noun(x, b_is_defined)
 }
 
-// The verb or the noun, and a last 0649 where both have failed.
-pub fn suffixes(env: Env, b_is_defined: bool) -> Env
+// The verb or the noun, and a last 0649 where both have failed. The two flags are those of one kind.
+pub fn suffixes(env: Env, b_is_defined: bool, b_is_verb: bool) -> Env
     requires { ⌜ Ready env ⌝ }
-    ensures { λ r. ⌜ ((w : Word) → Stands env (atEnd w)
+    ensures { λ r. ⌜ (kindByVerb «b_is_verb» ≡ kindOf «b_is_defined» → (w : Word) → Stands env (atEnd w)
         → Stands r (atEnd (maqsuraIfFailed (endings (kindOf «b_is_defined») w) (after (endings (kindOf «b_is_defined») w) .text)))) ⌝ }
 {
-    let a = open_verb(env, b_is_defined);
+    let a = open_verb(env, b_is_verb);
     let t = or_noun(a, b_is_defined);
     let found = t.found;
     let x = t.env;

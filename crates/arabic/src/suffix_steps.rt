@@ -197,7 +197,8 @@ pub fn r_Suffix_Noun_Step3(env: Env) -> Tried
     cut_ending(env, place)
 }
 
-// A last 0649 becomes 064A. The Rust's answer, which its caller does not use, is left out.
+// A last 0649 becomes 064A. The Rust's answer, which its caller does not use, is left out. The cursor stays at the end of the text: the
+// Rust's search leaves it in front of the letter, and its caller puts it to the end.
 pub fn r_Suffix_All_alef_maqsura(env: Env) -> Env
     requires { ⌜ Ready env ⌝ }
     ensures { λ r. ⌜ ((w : Word) → Stands env (atEnd w) → Stands r (atEnd (suffixAllAlefMaqsura w))) ⌝ }

@@ -7,7 +7,7 @@ use Rattle.definition.specs.Kind.{Kind, OPEN, ifOpen}
 use Rattle.definition.specs.Fronts.{Fronting, prefixStep1, prefixStep2, prefixStep3aNoun, prefixStep3bNoun, apply, prefixSteps, started}
 use Rattle.arabic.specs.declared.tried.Tried.{Tried}
 use Rattle.arabic.specs.Fronts.{Fronts, GivesFront}
-use Rattle.arabic.specs.Kinds.{kindOf}
+use Rattle.arabic.specs.Kinds.{kindByVerb}
 use Rattle.arabic.specs.Nests.{verbSteps}
 use Rattle.arabic.proofs.Nest.{ready-front, or-yes, or-no, not-open, prefix-steps-is}
 use borrow.Author.Needs.{needs}
@@ -49,7 +49,7 @@ returns : tie.Need-returns
 returns c =
     let f = c .before in
     let r = f .r-Prefix-Step3a-Noun .result in
-    let k = kindOf (f .before .before .before .before .before .args .context .«b_is_defined») in
+    let k = kindByVerb (f .before .before .before .before .before .args .context .«b_is_verb») in
     λ w st. all r k w (or-yes r (ifOpen k verbSteps) (c .if1 .taken) (two w) (or-yes r (apply prefixStep3bNoun) (c .if1 .taken) (first w) (b f w st)))
 
 r-Prefix-Step3b-Noun-requires : tie.Need-r-Prefix-Step3b-Noun-requires
@@ -62,15 +62,8 @@ returns-2 : tie.Need-returns-2
 returns-2 c =
     let f = c .before in
     let r = f .r-Prefix-Step3b-Noun .result in
-    let k = kindOf (f .before .before .before .before .before .before .before .before .args .context .«b_is_defined») in
+    let k = kindByVerb (f .before .before .before .before .before .before .before .before .args .context .«b_is_verb») in
     λ w st. all r k w (or-yes r (ifOpen k verbSteps) (c .if2 .taken) (two w) (d f w st))
-
-returns-3 : tie.Need-returns-3
-returns-3 c =
-    let f = c .before .before in
-    let r = f .r-Prefix-Step3b-Noun .result in
-    λ w st. subst (λ (x : Bool). GivesFront r (prefixSteps (kindOf x) (started w))) (sym (c .if3 .taken))
-    (all r _ w (not-open r verbSteps (c .before .if2 .left) (two w) (d f w st)))
 
 verb-steps-requires : tie.Need-verb-steps-requires
 verb-steps-requires c κs =
@@ -78,13 +71,20 @@ verb-steps-requires c κs =
     let p = f .before .before .before .before .before .before .before .before .pre in
     ready-front (f .r-Prefix-Step3b-Noun .result) (_, d f (p .0) (p .1))
 
-returns-4 : tie.Need-returns-4
-returns-4 c =
+returns-3 : tie.Need-returns-3
+returns-3 c =
     let e = c .before .before in
     let f = e .before .before in
     let r = c .verb-steps in
-    λ w st. subst (λ (x : Bool). GivesFront (r .result) (prefixSteps (kindOf x) (started w))) (sym (e .if3 .left))
+    λ w st. subst (λ (x : Bool). GivesFront (r .result) (prefixSteps (kindByVerb x) (started w))) (sym (e .if3 .taken))
     (all (r .result) OPEN w (or-no (f .r-Prefix-Step3b-Noun .result) (r .result) (ifOpen OPEN verbSteps) (e .before .if2 .left) (r .ensures) (two w) (d f w st)))
+
+returns-4 : tie.Need-returns-4
+returns-4 c =
+    let f = c .before .before in
+    let r = f .r-Prefix-Step3b-Noun .result in
+    λ w st. subst (λ (x : Bool). GivesFront r (prefixSteps (kindByVerb x) (started w))) (sym (c .if3 .left))
+    (all r _ w (not-open r verbSteps (c .before .if2 .left) (two w) (d f w st)))
 
 pub prefixes-spec : {M : Type 1} → statement M
 prefixes-spec =
@@ -96,6 +96,6 @@ prefixes-spec =
     returns
     r-Prefix-Step3b-Noun-requires
     returns-2
-    returns-3
     verb-steps-requires
+    returns-3
     returns-4)

@@ -1,14 +1,13 @@
 -- `stem::stem` meets its contract: items 1 to 5 of the word. Assumes nothing.
-use mathlib.Core.Path.{_≡_, refl, ap, _∙_, subst}
+use mathlib.Core.Path.{_≡_, refl, sym, ap, _∙_, subst}
 use Rattle.definition.specs.Kind.{Kind, OPEN, DEFINED, kind}
 use Rattle.definition.specs.Normal.{normalise}
 use Rattle.definition.specs.Stem.{stemOf, stem}
 use Rattle.snowball.specs.Chars.{started}
 use Rattle.snowball.specs.Stands.{Stands}
 use Rattle.arabic.specs.declared.context.Context.{Context}
-use Rattle.arabic.specs.Kinds.{flags, kindOf}
+use Rattle.arabic.specs.Kinds.{flags, kindByVerb, kindOf}
 use Rattle.arabic.proofs.Standing.{spelt}
-use borrow.Author.Needs.{needs}
 use Rattle.arabic.proofs.stem.stem.Statement.{statement}
 use Rattle.arabic.proofs.stem.stem.Tie as tie
 
@@ -16,11 +15,18 @@ kind-back : (k : Kind) → kindOf (flags k .defined) ≡ k
 kind-back OPEN = refl
 kind-back DEFINED = refl
 
+one-kind : (k : Kind) → kindByVerb (flags k .verb) ≡ kindOf (flags k .defined)
+one-kind OPEN = refl
+one-kind DEFINED = refl
+
 checked-requires : tie.Need-checked-requires
 checked-requires c κs = spelt (c .before .before .before .pre .0 .1)
 
 stem-of-requires : tie.Need-stem-of-requires
-stem-of-requires c κs = search needs
+stem-of-requires c κs =
+    let p = c .before .before .before .before .pre in
+    let e = c .checked .ensures (p .0 .0) (p .0 .1 .scalars) (p .0 .1 .bytes) in
+    (p .0, p .1, subst (λ (x : Context). kindByVerb (x .«b_is_verb») ≡ kindOf (x .«b_is_defined»)) (sym e) (one-kind (kind (p .0 .0))))
 
 returns : tie.Need-returns
 unfolding stem

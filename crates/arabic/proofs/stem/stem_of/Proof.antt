@@ -1,9 +1,14 @@
 -- `stem::stem_of` meets its contract. Assumes nothing.
+use mathlib.Core.Path.{subst}
 use Rattle.definition.specs.Tries.{after}
+use Rattle.definition.specs.Kind.{Kind}
 use Rattle.definition.specs.Normal.{normalise}
 use Rattle.definition.specs.Endings.{endings, maqsuraIfFailed}
+use Rattle.definition.specs.Fronts.{text, fronts}
+use Rattle.definition.specs.Finish.{finish}
 use Rattle.definition.specs.Stem.{cutting, fronting, stemOf}
 use Rattle.snowball.specs.Chars.{started}
+use Rattle.snowball.specs.Stands.{Stands}
 use Rattle.arabic.specs.Kinds.{kindOf}
 use Rattle.arabic.proofs.stem.stem_of.Statement.{statement}
 use Rattle.arabic.proofs.stem.stem_of.Tie as tie
@@ -19,14 +24,14 @@ change-front-requires c κs =
     let n = c .before in
     let p = n .before .pre .0 in
     let k = kindOf (n .before .args .context .«b_is_defined») in
-    (maqsuraIfFailed (endings k (normalise (p .0))) (after (endings k (normalise (p .0))) .text), c .cut-endings .ensures (normalise (p .0)) (n .r-Normalize-pre .ensures (p .0) (p .1)))
+    (maqsuraIfFailed (endings k (normalise (p .0))) (after (endings k (normalise (p .0))) .text), c .cut-endings .ensures (n .before .pre .2) (normalise (p .0)) (n .r-Normalize-pre .ensures (p .0) (p .1)))
 
 finish-letters-requires : tie.Need-finish-letters-requires
 finish-letters-requires c κs =
     let s = c .before in
     let n = s .before in
     let p = n .before .pre .0 in
-    (_, c .change-front .ensures _ (s .cut-endings .ensures (normalise (p .0)) (n .r-Normalize-pre .ensures (p .0) (p .1))))
+    (_, c .change-front .ensures _ (s .cut-endings .ensures (n .before .pre .2) (normalise (p .0)) (n .r-Normalize-pre .ensures (p .0) (p .1))))
 
 returns : tie.Need-returns
 unfolding stemOf fronting cutting
@@ -34,7 +39,10 @@ returns c =
     let f = c .before in
     let s = f .before in
     let n = s .before in
-    λ w st. c .finish-letters .ensures _ (f .change-front .ensures _ (s .cut-endings .ensures (normalise w) (n .r-Normalize-pre .ensures w st)))
+    let e = n .before .pre .2 in
+    let d = kindOf (n .before .args .context .«b_is_defined») in
+    λ w st. subst (λ (k : Kind). Stands (c .finish-letters .result) (started (finish (text (fronts k (maqsuraIfFailed (endings d (normalise w)) (after (endings d (normalise w)) .text)))))))
+    e (c .finish-letters .ensures _ (f .change-front .ensures _ (s .cut-endings .ensures e (normalise w) (n .r-Normalize-pre .ensures w st))))
 
 pub stem-of-spec : {M : Type 1} → statement M
 stem-of-spec = tie.close (tie.spec r-Normalize-pre-requires cut-endings-requires change-front-requires finish-letters-requires returns)
