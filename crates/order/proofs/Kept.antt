@@ -17,12 +17,12 @@ use Rattle.order.proofs.Same.{same}
 abbrev from-endings : Word → Word → Word
 from-endings w n = finishBy unexchanged (text (after (prefixStepsBy unexchanged (kind w) (started n))))
 
-by-endings : (x : Pair) → ((k : Kind) (n : Word) → endingsBy x k n ≡ endingsBy unexchanged k n)
+pub by-endings : (x : Pair) → ((k : Kind) (n : Word) → endingsBy x k n ≡ endingsBy unexchanged k n)
     → ((w : Word) → stemBy x w ≡ from-endings w (after (endingsBy x (kind w) (normalise w)) .text)) → Unshown x
 unfolding stemBy ordered allOf
 by-endings x e s w = s w ∙ ap (λ (t : Try Cutting). from-endings w (after t .text)) (e (kind w) (normalise w)) ∙ same w
 
-by-fronts : (x : Pair) → ((k : Kind) (n : Word) → text (after (prefixStepsBy x k (started n))) ≡ text (after (prefixStepsBy unexchanged k (started n))))
+pub by-fronts : (x : Pair) → ((k : Kind) (n : Word) → text (after (prefixStepsBy x k (started n))) ≡ text (after (prefixStepsBy unexchanged k (started n))))
     → ((w : Word) → stemBy x w ≡ finishBy unexchanged (text (after (prefixStepsBy x (kind w) (started (after (endingsBy unexchanged (kind w) (normalise w)) .text)))))) → Unshown x
 unfolding stemBy ordered allOf
 by-fronts x e s w = s w ∙ ap (finishBy unexchanged) (e (kind w) (after (endingsBy unexchanged (kind w) (normalise w)) .text)) ∙ same w

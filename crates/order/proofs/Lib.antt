@@ -7,5 +7,6 @@ pub mod Fronts
 pub mod Same
 pub mod Kept
 pub mod Places
+pub mod Beyond
 pub mod Settled
 pub mod Defined

@@ -127,7 +127,7 @@ abbrev pub neighbours : List Place → List Pair
 neighbours [] = []
 neighbours (p ∷ ps) = pairsFrom p 0 (entries p - 1) ++ neighbours ps
 
--- main-places: no place is missing
+-- all places, each at its number
 abbrev pub places : List Place
 places =
     way ∷ ends ∷ verbs ∷ verbTurns ∷ verbSequel ∷ nounTurns ∷ nouns ∷ step1aTurns ∷ step1aSequel ∷ step1bTurns ∷ step1bSequel ∷ fronts ∷ thirds ∷ verbFronts ∷ finishing ∷ []
