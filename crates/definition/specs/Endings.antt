@@ -112,7 +112,7 @@ noun k = inTurn (nounInTurn (firstOf (nounChoices k
 
 -- an open word first tries the verb; the noun follows where the verb was not tried or failed
 abbrev pub endingChoices : Kind → Step Cutting → Step Cutting → List (Step Cutting)
-endingChoices k verb noun = ifOpen k verb ∷ noun ∷ []
+endingChoices k byVerb byNoun = ifOpen k byVerb ∷ byNoun ∷ []
 
 -- it fails where the noun's Step3 fails
 unfoldable pub endings : Kind → Word → Try Cutting

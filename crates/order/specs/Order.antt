@@ -87,7 +87,7 @@ maqsura v = pick (endsWith (v .text) (alefMaksura ∷ [])) (done (record { text 
 
 -- verb and noun of the definition, and behind them the last 0649
 abbrev pub allEndings : Kind → Step Cutting → Step Cutting → List (Step Cutting)
-allEndings k verb noun = endingChoices k verb noun ++ (maqsura ∷ [])
+allEndings k byVerb byNoun = endingChoices k byVerb byNoun ++ (maqsura ∷ [])
 
 -- Item 4: where an alternative fails, the cursor goes back to where it stood before Step3, when nothing was passed yet.
 abbrev pub back : Fronting → Fronting
