@@ -1,4 +1,4 @@
-"""Reads tables and clauses out of the definition, crates/definition/specs, and the pairs out of crates/order/specs."""
+"""Reads tables, clauses and examples out of the definition, crates/definition/specs, and the pairs out of crates/order/specs."""
 import os
 import re
 
@@ -46,10 +46,30 @@ def numbers(text):
     return [int(n) for n in re.findall(r'\d+', text)]
 
 
+def rule(text, left):
+    """The number of the table and the guards of a clause with a `rule`."""
+    m = re.search(r'rule «A_(\d+)» \(([^)]*)\)', clause(text, left))
+    return int(m.group(1)), numbers(m.group(2))
+
+
 def words_of(text):
     """A list of words: each `[]` or letters in parentheses."""
+    if text.strip() == '[]':
+        return []
     parts = re.findall(r'\(([^)]*)\)|\[\]', re.sub(r'∷ \[\]\s*$', '', text))
     return [[letter(w) for w in part.split() if w not in ('∷', '[]')] for part in parts]
+
+
+def examples():
+    """The words of Examples.antt: each with its stem, its kind and its normalised word, of which None is not given."""
+    word = lambda text: [letter(c) for c in re.findall(r'\w+', text)]
+    text, one = spec('Examples'), r'(\[\]|\([^()]*\))'
+    for w, s, k in re.findall(rf'\bsample {one}\s+{one}\s+(OPEN|DEFINED)', text):
+        yield word(w), word(s), k, None
+    for w, k, _, _, s in re.findall(rf'\bworked {one}\s+(OPEN|DEFINED)\s+{one}\s+{one}\s+{one}', text):
+        yield word(w), word(s), k, None
+    for w, n in re.findall(rf'\bnormalSample {one}\s+{one}', text):
+        yield word(w), None, None, word(n)
 
 
 def settled_pairs():
