@@ -18,7 +18,7 @@ use Rattle.definition.specs.Demand3.{Demand3}
 use Rattle.definition.specs.Facts.{Longest, distinct, allTables, replaced, Idle, AllSteps, notStep1a, AllCuts, NotNoonAlef, cutWord}
 use Rattle.definition.specs.Examples.{computed, twelve, work, examples, samples, normalised, normalSamples}
 use Rattle.definition.specs.Listed.{EveryClassListed}
-use Rattle.definition.proofs.Examples.{examples-right, samples-right}
+use Rattle.definition.proofs.Examples.{examples-right}
 use Rattle.definition.proofs.Finish.{finish-all}
 use Rattle.definition.proofs.Listed.{every-class-listed}
 use Rattle.definition.proofs.Rows.{last-rows, other-rows, maqsura-row}
@@ -50,7 +50,7 @@ main-examples = examples-right .1
 
 -- small words for every row and guard, and the letters of item 2
 pub main-samples : (map computed samples ≡ samples) × (map normalised normalSamples ≡ normalSamples)
-main-samples = samples-right
+main-samples = (examples-right .2, examples-right .3)
 
 -- every class of every table has its guard and its replacement
 pub main-listed : EveryClassListed
