@@ -48,7 +48,7 @@ main-twelve = examples-right .0
 pub main-examples : map work examples ≡ examples
 main-examples = examples-right .1
 
--- small words for every row and guard, and the letters of item 2
+-- small words that show a wrong row, guard or replacement, and what item 2 gives for each letter that it reads
 pub main-samples : (map computed samples ≡ samples) × (map normalised normalSamples ≡ normalSamples)
 main-samples = (examples-right .2, examples-right .3)
 

@@ -1,4 +1,5 @@
--- Words and what the definition gives for them: document 01's twelve, worked examples for every step that changes a word, and small words for every row and guard.
+-- Words and what the definition gives for them: document 01's twelve, worked examples for every step that changes a word, and small words
+-- that show a wrong row, guard or replacement.
 use Prim.Native.Nat.{ℕ}
 use mathlib.Core.List.{List, [], _∷_}
 use Rattle.definition.specs.Letters.{hamza, alefMadda, alefHamzaAbove, wawHamza, alefHamzaBelow, yehHamza, alef, beh, tehMarbuta, teh, theh, jeem, hah, khah, dal, thal, reh, zain, seen, sheen, sad, dad, tah, zah, ain, ghain, feh, qaf, kaf, lam, meem, noon, heh, waw, alefMaksura, yeh}
@@ -104,12 +105,11 @@ examples =
     ∷ worked (beh ∷ dal ∷ alefHamzaAbove ∷ []) OPEN [] [] (beh ∷ dal ∷ hamza ∷ [])
     ∷ []
 
--- Small words: each shows a wrong guard, row, class, exception or replacement of its step that no word above shows (compare/wrong).
+-- Small words: each shows a wrong guard, row, class, exception or replacement of its step that no other word here shows (compare/wrong).
 unfoldable pub samples : List Sample
 samples =
     -- the kind check
     sample (alef ∷ lam ∷ dal ∷ []) (alef ∷ lam ∷ dal ∷ []) OPEN
-    ∷ sample (alef ∷ lam ∷ dal ∷ reh ∷ []) (alef ∷ lam ∷ dal ∷ reh ∷ []) DEFINED
     ∷ sample (beh ∷ alef ∷ lam ∷ dal ∷ []) (beh ∷ alef ∷ lam ∷ dal ∷ []) OPEN
     ∷ sample (kaf ∷ alef ∷ lam ∷ dal ∷ []) (kaf ∷ alef ∷ lam ∷ dal ∷ []) OPEN
     ∷ sample (lam ∷ lam ∷ dal ∷ reh ∷ []) (lam ∷ lam ∷ dal ∷ reh ∷ []) DEFINED
@@ -124,10 +124,8 @@ samples =
     ∷ sample (dal ∷ reh ∷ hah ∷ kaf ∷ noon ∷ []) (dal ∷ reh ∷ hah ∷ []) OPEN
     ∷ sample (dal ∷ reh ∷ hah ∷ kaf ∷ heh ∷ []) (dal ∷ reh ∷ hah ∷ []) OPEN
     ∷ sample (dal ∷ reh ∷ hah ∷ noon ∷ yeh ∷ []) (dal ∷ reh ∷ hah ∷ []) OPEN
-    ∷ sample (dal ∷ reh ∷ hah ∷ heh ∷ alef ∷ []) (dal ∷ reh ∷ hah ∷ []) OPEN
     ∷ sample (dal ∷ reh ∷ hah ∷ heh ∷ noon ∷ []) (dal ∷ reh ∷ hah ∷ []) OPEN
     ∷ sample (dal ∷ reh ∷ hah ∷ heh ∷ heh ∷ alef ∷ []) (dal ∷ reh ∷ hah ∷ []) OPEN
-    ∷ sample (dal ∷ reh ∷ kaf ∷ meem ∷ noon ∷ yeh ∷ []) (dal ∷ reh ∷ kaf ∷ meem ∷ []) OPEN
     ∷ sample (dal ∷ reh ∷ hah ∷ kaf ∷ meem ∷ kaf ∷ noon ∷ []) (dal ∷ reh ∷ hah ∷ []) OPEN
     ∷ sample (dal ∷ reh ∷ hah ∷ heh ∷ meem ∷ heh ∷ alef ∷ []) (dal ∷ reh ∷ hah ∷ []) OPEN
     ∷ sample (dal ∷ reh ∷ kaf ∷ meem ∷ alef ∷ noon ∷ alef ∷ []) (dal ∷ reh ∷ kaf ∷ meem ∷ []) OPEN
@@ -145,7 +143,6 @@ samples =
     ∷ sample (dal ∷ reh ∷ hah ∷ yeh ∷ noon ∷ []) (dal ∷ reh ∷ hah ∷ yeh ∷ noon ∷ []) OPEN
     ∷ sample (dal ∷ reh ∷ hah ∷ teh ∷ meem ∷ alef ∷ []) (dal ∷ reh ∷ hah ∷ []) OPEN
     ∷ sample (dal ∷ reh ∷ hah ∷ yeh ∷ heh ∷ alef ∷ []) (dal ∷ reh ∷ hah ∷ []) OPEN
-    ∷ sample (dal ∷ reh ∷ teh ∷ meem ∷ alef ∷ heh ∷ alef ∷ []) (dal ∷ reh ∷ teh ∷ meem ∷ alef ∷ []) OPEN
     ∷ sample (dal ∷ reh ∷ hah ∷ dal ∷ alef ∷ noon ∷ heh ∷ alef ∷ []) (dal ∷ reh ∷ hah ∷ dal ∷ []) OPEN
     -- Step2b
     ∷ sample (dal ∷ reh ∷ hah ∷ teh ∷ meem ∷ []) (dal ∷ reh ∷ hah ∷ []) OPEN
