@@ -4,7 +4,7 @@ ghost use lib.ListN.{length};
 ghost use Rattle.definition.specs.Normal.{normalise};
 ghost use Rattle.definition.specs.Finish.{finish};
 ghost use Rattle.definition.specs.Stem.{stem};
-ghost use Rattle.stemmer.specs.Entries.{bytesOf, fitting, answer, outAfter, kindAnswer, Demand3After, version};
+ghost use Rattle.stemmer.specs.Entries.{enoughRoom, bytesOf, fitting, answer, outAfter, kindAnswer, Demand3After, version};
 ghost use Rattle.arabic_stemmer.specs.Interface.{told, number, toldKind};
 
 // The entries under the names that C links; include/arabic_stemmer.h declares them. A slice is a pointer and a length.
@@ -46,7 +46,7 @@ pub extern "C" fn arabic_stemmer_stem(word: &[u8], out: &mut [u8]) -> Answer
     ensures { λ r. ⌜ r ≡ told (answer stem (now (word .entry)) (length (now (out .entry)))) ⌝ }
     ensures { λ r. ⌜ now (out .exit) ≡ outAfter (answer stem (now (word .entry)) (length (now (out .entry)))) (bytesOf stem (now (word .entry))) (now (out .entry)) ⌝ }
     ensures { λ r. ⌜ Demand3After (now (word .entry)) (answer stem (now (word .entry)) (length (now (out .entry)))) (now (out .exit)) ⌝ }
-    ensures { λ r. ⌜ (r .code ≡ 3 → length (now (out .entry)) < 340) ⌝ }
+    ensures { λ r. ⌜ (r .code ≡ 3 → length (now (out .entry)) < enoughRoom) ⌝ }
 {
     let a = stemmer::stem(word, out);
     answer_of(a)
@@ -57,7 +57,7 @@ pub extern "C" fn arabic_stemmer_stem(word: &[u8], out: &mut [u8]) -> Answer
 pub extern "C" fn arabic_stemmer_normalise(word: &[u8], out: &mut [u8]) -> Answer
     ensures { λ r. ⌜ r ≡ told (answer normalise (now (word .entry)) (length (now (out .entry)))) ⌝ }
     ensures { λ r. ⌜ now (out .exit) ≡ outAfter (answer normalise (now (word .entry)) (length (now (out .entry)))) (bytesOf normalise (now (word .entry))) (now (out .entry)) ⌝ }
-    ensures { λ r. ⌜ (r .code ≡ 3 → length (now (out .entry)) < 340) ⌝ }
+    ensures { λ r. ⌜ (r .code ≡ 3 → length (now (out .entry)) < enoughRoom) ⌝ }
 {
     let a = stemmer::normalise(word, out);
     answer_of(a)
@@ -68,7 +68,7 @@ pub extern "C" fn arabic_stemmer_normalise(word: &[u8], out: &mut [u8]) -> Answe
 pub extern "C" fn arabic_stemmer_finish(word: &[u8], out: &mut [u8]) -> Answer
     ensures { λ r. ⌜ r ≡ told (answer finish (now (word .entry)) (length (now (out .entry)))) ⌝ }
     ensures { λ r. ⌜ now (out .exit) ≡ outAfter (answer finish (now (word .entry)) (length (now (out .entry)))) (bytesOf finish (now (word .entry))) (now (out .entry)) ⌝ }
-    ensures { λ r. ⌜ (r .code ≡ 3 → length (now (out .entry)) < 340) ⌝ }
+    ensures { λ r. ⌜ (r .code ≡ 3 → length (now (out .entry)) < enoughRoom) ⌝ }
 {
     let a = stemmer::finish(word, out);
     answer_of(a)

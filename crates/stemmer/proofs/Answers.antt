@@ -1,5 +1,5 @@
 -- The answer of an entry, check by check, and what an answer says of the result. Assumes nothing.
-use mathlib.Core.Path.{_≡_, refl, sym, ap, _∙_}
+use mathlib.Core.Path.{_≡_, refl, sym, ap, _∙_, subst}
 use mathlib.Core.Bool.{Bool, true, false, not}
 use mathlib.Core.List.{List, []}
 use mathlib.Core.Option.{some}
@@ -12,88 +12,99 @@ use borrow.Author.Tests.{lt-ltb, le-ltb, ltb-true, ltb-false}
 use Rattle.utf8.specs.Utf8.{Scalars, encode, decode, wellFormed}
 use Rattle.utf8.proofs.Main.{main-decodes, main-text}
 use Rattle.definition.specs.Words.{Word, pick}
-use Rattle.definition.specs.Kind.{OPEN, kind}
+use Rattle.definition.specs.Kind.{kind}
 use Rattle.definition.specs.Stem.{stem}
 use Rattle.definition.proofs.Main.{main-demand3}
 use Rattle.definition.proofs.Match.{by}
 use Rattle.snowball.specs.Chars.{started}
 use Rattle.snowball.specs.Stands.{Stands}
 use Rattle.snowball.specs.declared.env.Env.{Env}
-use Rattle.arabic.specs.Kinds.{flags}
 use Rattle.stemmer.specs.declared.Answer.{Answer}
 use Rattle.stemmer.specs.declared.Answer.the-variants.{Done, TooLong, NotWellFormed, NoRoom}
-use Rattle.stemmer.specs.Entries.{codeOf, countOf, letters, bytesOf, fitting, answer, outAfter, partAfter, kindAnswer, Demand3After}
+use Rattle.stemmer.specs.declared.Checked.{Checked}
+use Rattle.stemmer.specs.declared.Checked.the-variants.{Overlong, Malformed, Accepted}
+use Rattle.stemmer.specs.Entries.{codeOf, countOf, mostBytes, enoughRoom, letters, bytesOf, checked, afterChecks, fitting, answer, outAfter, partAfter, kindAfter, kindAnswer, Demand3After}
 
--- ---- a word's letters
+-- ---- checking: each outcome
+
+module _ (word : List ℕ) where
+  pub overlong : mostBytes < length word → Overlong ≡ checked word
+  unfolding checked
+  overlong h = rw (lt-ltb mostBytes (length word) h) refl
+
+  pub malformed : length word ≤ mostBytes → wellFormed word ≡ false → Malformed ≡ checked word
+  unfolding checked
+  malformed h e = rw (le-ltb mostBytes (length word) h, e) refl
+
+  pub accepted : length word ≤ mostBytes → wellFormed word ≡ true → Accepted ≡ checked word
+  unfolding checked
+  accepted h e = rw (le-ltb mostBytes (length word) h, e) refl
+
+-- ---- an accepted word: its length, and its letters
+
+both-passed : (long formed : Bool) → pick long Overlong (pick (not formed) Malformed Accepted) ≡ Accepted → (long ≡ false) × (formed ≡ true)
+both-passed true formed e = let z : _≡_ {A = ℕ} 0 1 = cc in absurd (omega arith)
+both-passed false true e = (refl, refl)
+both-passed false false e = let z : _≡_ {A = ℕ} 0 1 = cc in absurd (omega arith)
 
 letters-are : (word cs : List ℕ) → decode word ≡ some cs → letters word ≡ cs
 unfolding letters
 letters-are word cs e = rw e refl
 
-encoded : (word cs : List ℕ) → Scalars cs → word ≡ encode cs → letters word ≡ cs
-encoded word cs s e = letters-are word cs (ap decode e ∙ main-decodes cs s)
+module _ (word : List ℕ) (e : checked word ≡ Accepted) where
+  passed : (ltb mostBytes (length word) ≡ false) × (wellFormed word ≡ true)
+  unfolding checked
+  passed = both-passed (ltb mostBytes (length word)) (wellFormed word) e
 
--- ---- the checks
+  pub short : length word ≤ mostBytes
+  short = ltb-false mostBytes (length word) (passed .0)
 
-too-long : (f : Word → Word) (word : List ℕ) (room : ℕ) → 255 < length word → TooLong ≡ answer f word room
-unfolding answer
-too-long f word room h = rw (lt-ltb 255 (length word) h) refl
+  letters-of : main-text word (passed .1) .0 ≡ letters word
+  letters-of =
+      let m = main-text word (passed .1) in
+      sym (letters-are word (m .0) (ap decode (m .2) ∙ main-decodes (m .0) (m .1)))
 
-not-well-formed : (f : Word → Word) (word : List ℕ) (room : ℕ) → length word ≤ 255 → wellFormed word ≡ false → NotWellFormed ≡ answer f word room
-unfolding answer
-not-well-formed f word room h e = rw (le-ltb 255 (length word) h, e) refl
+  pub scalars : Scalars (letters word)
+  scalars = subst Scalars letters-of (main-text word (passed .1) .1)
 
-taken : (f : Word → Word) (word : List ℕ) (room : ℕ) → length word ≤ 255 → wellFormed word ≡ true → fitting (length (bytesOf f word)) room ≡ answer f word room
-unfolding answer
-taken f word room h e = rw (le-ltb 255 (length word) h, e) refl
-
--- ---- refusals: the answer, and the old bytes
-module _ (f : Word → Word) (word old : List ℕ) where
-  out-by : (a : Answer) → a ≡ answer f word (length old) → outAfter a (bytesOf f word) old ≡ outAfter (answer f word (length old)) (bytesOf f word) old
-  out-by a e = ap (λ (x : Answer). outAfter x (bytesOf f word) old) e
-
-  pub long : 255 < length word → (TooLong ≡ answer f word (length old)) × (old ≡ outAfter (answer f word (length old)) (bytesOf f word) old)
-  unfolding outAfter
-  long h = (too-long f word (length old) h, out-by TooLong (too-long f word (length old) h))
-
-  pub malformed : length word ≤ 255 → wellFormed word ≡ false
-      → (NotWellFormed ≡ answer f word (length old)) × (old ≡ outAfter (answer f word (length old)) (bytesOf f word) old)
-  unfolding outAfter
-  malformed h e = (not-well-formed f word (length old) h e, out-by NotWellFormed (not-well-formed f word (length old) h e))
-
--- ---- an accepted word
-module _ (word : List ℕ) (t : wellFormed word ≡ true) where
-  abbrev pub word-letters : Word
-  word-letters = main-text word t .0
-
-  pub scalars : Scalars word-letters
-  scalars = main-text word t .1
-
-  pub spelling : word ≡ encode word-letters
-  spelling = main-text word t .2
-
-  pub letters-of : letters word ≡ word-letters
-  letters-of = encoded word word-letters scalars spelling
-
--- an environment that stands for what f makes of the word's letters, and the answer with its text
-module _ (f : Word → Word) (word : List ℕ) (h : length word ≤ 255) (t : wellFormed word ≡ true) (e : Env) (st : Stands e (started (f (word-letters word t)))) where
-  result-bytes : bytesOf f word ≡ encode (f (word-letters word t))
-  unfolding bytesOf
-  result-bytes = ap (λ (w : Word). encode (f w)) (letters-of word t)
-
-  pub delivered : (r : Answer) (old new : List ℕ) → r ≡ fitting (e .limit) (length old) → new ≡ outAfter r (take (e .limit) (e .current)) old
-      → (r ≡ answer f word (length old)) × (new ≡ outAfter (answer f word (length old)) (bytesOf f word) old)
-  delivered r old new a o =
-      let q : r ≡ answer f word (length old) =
-      a ∙ ap (λ (n : ℕ). fitting n (length old)) (st .sized ∙ ap length (sym result-bytes)) ∙ taken f word (length old) h t in
-      (q, o ∙ ap (λ (bs : List ℕ). outAfter r bs old) (st .bytes ∙ sym result-bytes) ∙ out-by f word old r q)
+  pub spelling : word ≡ encode (letters word)
+  spelling = main-text word (passed .1) .2 ∙ ap encode letters-of
 
 -- ---- code 3 says that the output is shorter than the result
-pub no-room : (r : Answer) (n room : ℕ) → r ≡ fitting n room → n ≤ 340 → codeOf r ≡ 3 → room < 340
+no-room : (r : Answer) (n room : ℕ) → r ≡ fitting n room → n ≤ enoughRoom → codeOf r ≡ 3 → room < enoughRoom
 unfolding fitting
 no-room r n room e h z = by (ltb room n)
     (λ t. omega (arith, ltb-true room n t))
     (λ t. let q : codeOf r ≡ 0 = ap codeOf e ∙ ap (λ (b : Bool). codeOf (pick b NoRoom (Done n))) t in absurd (omega arith))
+
+-- ---- the law of the entries: what is promised of the one that f belongs to, for each outcome of the checks
+module _ (f : Word → Word) (word old : List ℕ) where
+  abbrev Promised : Answer → List ℕ → Type 0
+  Promised r new =
+      (r ≡ answer f word (length old)) × ((new ≡ outAfter (answer f word (length old)) (bytesOf f word) old) × (codeOf r ≡ 3 → length old < enoughRoom))
+
+  out-by : (a : Answer) → a ≡ answer f word (length old) → outAfter a (bytesOf f word) old ≡ outAfter (answer f word (length old)) (bytesOf f word) old
+  out-by a e = ap (λ (x : Answer). outAfter x (bytesOf f word) old) e
+
+  after : (c : Checked) → checked word ≡ c → afterChecks c (fitting (length (bytesOf f word)) (length old)) ≡ answer f word (length old)
+  unfolding answer
+  after c e = sym (ap (λ (x : Checked). afterChecks x (fitting (length (bytesOf f word)) (length old))) e)
+
+  pub refused-overlong : checked word ≡ Overlong → Promised TooLong old
+  unfolding outAfter
+  refused-overlong e = (after Overlong e, (out-by TooLong (after Overlong e), λ z. absurd (omega arith)))
+
+  pub refused-malformed : checked word ≡ Malformed → Promised NotWellFormed old
+  unfolding outAfter
+  refused-malformed e = (after Malformed e, (out-by NotWellFormed (after Malformed e), λ z. absurd (omega arith)))
+
+  -- the text of an environment that stands for what f makes of the word's letters, delivered
+  pub delivered : checked word ≡ Accepted → (v : Env) → Stands v (started (f (letters word))) → (r : Answer) (new : List ℕ)
+      → r ≡ fitting (v .limit) (length old) → new ≡ outAfter r (take (v .limit) (v .current)) old → Promised r new
+  unfolding bytesOf
+  delivered e v st r new a o =
+      let q : r ≡ answer f word (length old) = a ∙ ap (λ (n : ℕ). fitting n (length old)) (st .sized) ∙ after Accepted e in
+      (q, (o ∙ ap (λ (bs : List ℕ). outAfter r bs old) (st .bytes) ∙ out-by r q, no-room r (v .limit) (length old) a (st .within)))
 
 -- ---- what a Done says
 
@@ -101,16 +112,15 @@ fits-or-not : (b : Bool) (m n : ℕ) → pick b NoRoom (Done m) ≡ Done n → (
 fits-or-not true m n e = let z : _≡_ {A = ℕ} 3 0 = ap codeOf e in absurd (omega arith)
 fits-or-not false m n e = (refl, ap countOf e)
 
-done-of : (b c d : Bool) (m n : ℕ) → pick b TooLong (pick c NotWellFormed (pick d NoRoom (Done m))) ≡ Done n → (d ≡ false) × (m ≡ n)
-done-of true c d m n e = let z : _≡_ {A = ℕ} 1 0 = ap codeOf e in absurd (omega arith)
-done-of false true d m n e = let z : _≡_ {A = ℕ} 2 0 = ap codeOf e in absurd (omega arith)
-done-of false false d m n e = fits-or-not d m n e
+done-of : (c : Checked) (d : Bool) (m n : ℕ) → afterChecks c (pick d NoRoom (Done m)) ≡ Done n → (d ≡ false) × (m ≡ n)
+done-of Overlong d m n e = let z : _≡_ {A = ℕ} 1 0 = ap codeOf e in absurd (omega arith)
+done-of Malformed d m n e = let z : _≡_ {A = ℕ} 2 0 = ap codeOf e in absurd (omega arith)
+done-of Accepted d m n e = fits-or-not d m n e
 
 module _ (f : Word → Word) (word : List ℕ) (room n : ℕ) (e : answer f word room ≡ Done n) where
   both-said : (ltb room (length (bytesOf f word)) ≡ false) × (length (bytesOf f word) ≡ n)
   unfolding answer fitting
-  both-said =
-      done-of (ltb 255 (length word)) (not (wellFormed word)) (ltb room (length (bytesOf f word))) (length (bytesOf f word)) n e
+  both-said = done-of (checked word) (ltb room (length (bytesOf f word))) (length (bytesOf f word)) n e
 
   count-is : length (bytesOf f word) ≡ n
   count-is = both-said .1
@@ -121,8 +131,9 @@ module _ (f : Word → Word) (word : List ℕ) (room n : ℕ) (e : answer f word
 pub done-count : (word : List ℕ) (room n : ℕ) → answer stem word room ≡ Done n → length (bytesOf stem word) ≡ n
 done-count = count-is stem
 
-pub over-long : (word : List ℕ) (room : ℕ) → 255 < length word → answer stem word room ≡ TooLong
-over-long word room h = sym (too-long stem word room h)
+pub over-long : (word : List ℕ) (room : ℕ) → mostBytes < length word → answer stem word room ≡ TooLong
+unfolding answer
+over-long word room h = sym (ap (λ (x : Checked). afterChecks x (fitting (length (bytesOf stem word)) room)) (overlong word h))
 
 pub done-fits : (word : List ℕ) (room n : ℕ) → answer stem word room ≡ Done n → n ≤ room
 done-fits = count-fits stem
@@ -138,8 +149,8 @@ front f word old TooLong e z = absurd (omega arith)
 front f word old NotWellFormed e z = absurd (omega arith)
 front f word old NoRoom e z = absurd (omega arith)
 
--- demand 3, from the other two promises of the stem entry
-pub owed : (word old new : List ℕ) (a : Answer) → a ≡ answer stem word (length old) → new ≡ outAfter (answer stem word (length old)) (bytesOf stem word) old
+-- demand 3, from the other promises of the stem entry
+owed : (word old new : List ℕ) (a : Answer) → a ≡ answer stem word (length old) → new ≡ outAfter (answer stem word (length old)) (bytesOf stem word) old
     → Demand3After word a new
 unfolding bytesOf
 owed word old new a e o = λ w d z. (
@@ -149,6 +160,10 @@ owed word old new a e o = λ w d z. (
     main-demand3 w,
   ),
 )
+
+pub with-demand3 : (word old : List ℕ) {r : Answer} {new : List ℕ} → Promised stem word old r new
+    → (r ≡ answer stem word (length old)) × ((new ≡ outAfter (answer stem word (length old)) (bytesOf stem word) old) × (Demand3After word r new × (codeOf r ≡ 3 → length old < enoughRoom)))
+with-demand3 word old {r} {new} p = (p .0, (p .1 .0, (owed word old new r (p .0) (p .1 .0), p .1 .1)))
 
 -- the part that is handed back: as many bytes of the output as the answer counts
 module _ (f : Word → Word) (word old : List ℕ) where
@@ -173,14 +188,6 @@ module _ (f : Word → Word) (word old : List ℕ) where
 
 -- ---- the kind
 
-pub kind-too-long : (word : List ℕ) → 255 < length word → record { code = 1; kind = flags OPEN } ≡ kindAnswer word
+pub kind-after : (word : List ℕ) (c : Checked) → checked word ≡ c → kindAfter c (kind (letters word)) ≡ kindAnswer word
 unfolding kindAnswer
-kind-too-long word h = rw (lt-ltb 255 (length word) h) refl
-
-pub kind-not-well-formed : (word : List ℕ) → length word ≤ 255 → wellFormed word ≡ false → record { code = 2; kind = flags OPEN } ≡ kindAnswer word
-unfolding kindAnswer
-kind-not-well-formed word h e = rw (le-ltb 255 (length word) h, e) refl
-
-pub kind-taken : (word : List ℕ) → length word ≤ 255 → wellFormed word ≡ true → record { code = 0; kind = flags (kind (letters word)) } ≡ kindAnswer word
-unfolding kindAnswer
-kind-taken word h e = rw (le-ltb 255 (length word) h, e) refl
+kind-after word c e = sym (ap (λ (x : Checked). kindAfter x (kind (letters word))) e)

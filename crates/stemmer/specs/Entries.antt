@@ -8,13 +8,23 @@ use lib.Dec.{ltb}
 use lib.ListN.{length, take, drop}
 use Rattle.utf8.specs.Utf8.{encode, decode, wellFormed}
 use Rattle.definition.specs.Words.{Word, pick}
-use Rattle.definition.specs.Kind.{OPEN, kind}
+use Rattle.definition.specs.Kind.{Kind, OPEN, kind}
 use Rattle.definition.specs.Stem.{stem}
 use Rattle.definition.specs.Demand3.{Demand3}
 use Rattle.arabic.specs.Kinds.{flags}
 use Rattle.stemmer.specs.declared.Answer.{Answer}
 use Rattle.stemmer.specs.declared.Answer.the-variants.{Done, TooLong, NotWellFormed, NoRoom}
+use Rattle.stemmer.specs.declared.Checked.{Checked}
+use Rattle.stemmer.specs.declared.Checked.the-variants.{Overlong, Malformed, Accepted}
 use Rattle.stemmer.specs.declared.KindAnswer.{KindAnswer}
+
+-- the most bytes that a word may have
+abbrev pub mostBytes : ℕ
+mostBytes = 255
+
+-- an output of so many bytes is long enough for every result
+abbrev pub enoughRoom : ℕ
+enoughRoom = 340
 
 -- document 01's code and count of an answer
 abbrev pub codeOf : Answer → ℕ
@@ -45,12 +55,19 @@ bytesOf f word = encode (f (letters word))
 unfoldable pub fitting : ℕ → ℕ → Answer
 fitting n room = pick (ltb room n) NoRoom (Done n)
 
--- document 01's table: the three checks in their order
+-- document 01's first two checks, in their order
+unfoldable pub checked : List ℕ → Checked
+checked word = pick (ltb mostBytes (length word)) Overlong (pick (not (wellFormed word)) Malformed Accepted)
+
+-- the answer after them, which for an accepted word is a
+abbrev pub afterChecks : Checked → Answer → Answer
+afterChecks Overlong a = TooLong
+afterChecks Malformed a = NotWellFormed
+afterChecks Accepted a = a
+
+-- document 01's table: the first two checks, and the third
 unfoldable pub answer : (Word → Word) → List ℕ → ℕ → Answer
-answer f word room =
-    pick (ltb 255 (length word)) TooLong
-    (pick (not (wellFormed word)) NotWellFormed
-    (fitting (length (bytesOf f word)) room))
+answer f word room = afterChecks (checked word) (fitting (length (bytesOf f word)) room)
 
 -- every byte of the output after an answer: the result in front and the old bytes behind, or the old bytes alone
 unfoldable pub outAfter : Answer → List ℕ → List ℕ → List ℕ
@@ -67,11 +84,13 @@ partAfter NotWellFormed result = []
 partAfter NoRoom result = []
 
 -- the kind entry: the same first two checks, and open on refusal
+abbrev pub kindAfter : Checked → Kind → KindAnswer
+kindAfter Overlong k = record { code = 1; kind = flags OPEN }
+kindAfter Malformed k = record { code = 2; kind = flags OPEN }
+kindAfter Accepted k = record { code = 0; kind = flags k }
+
 unfoldable pub kindAnswer : List ℕ → KindAnswer
-kindAnswer word =
-    pick (ltb 255 (length word)) (record { code = 1; kind = flags OPEN })
-    (pick (not (wellFormed word)) (record { code = 2; kind = flags OPEN })
-    (record { code = 0; kind = flags (kind (letters word)) }))
+kindAnswer word = kindAfter (checked word) (kind (letters word))
 
 -- the stem entry
 abbrev pub stemBytes : List ℕ → List ℕ

@@ -1,3 +1,4 @@
+// The entries: checking a word, working out what is asked of it, delivering the result. Each takes any bytes and any output.
 use arabic::kind::Kind;
 use arabic::kind::kind_of;
 use arabic::normalize::r_Normalize_pre;
@@ -11,7 +12,9 @@ ghost use lib.ListN.{length, take, drop};
 ghost use Rattle.definition.specs.Normal.{normalise};
 ghost use Rattle.definition.specs.Finish.{finish};
 ghost use Rattle.definition.specs.Stem.{stem};
-ghost use Rattle.stemmer.specs.Entries.{codeOf, countOf, bytesOf, fitting, answer, outAfter, partAfter, kindAnswer, Demand3After, version, stemAnswer, stemBytes};
+ghost use Rattle.snowball.specs.Chars.{started};
+ghost use Rattle.snowball.specs.Stands.{Stands};
+ghost use Rattle.stemmer.specs.Entries.{codeOf, countOf, mostBytes, enoughRoom, letters, bytesOf, checked, fitting, answer, outAfter, partAfter, kindAnswer, Demand3After, version, stemAnswer, stemBytes};
 
 // What an entry with an output answers. Done has the number of bytes that it wrote, from the front of the output on; a
 // refusal leaves the output as it was.
@@ -20,6 +23,13 @@ pub enum Answer {
     TooLong,
     NotWellFormed,
     NoRoom,
+}
+
+// What the first two checks say of a word.
+enum Checked {
+    Overlong,
+    Malformed,
+    Accepted,
 }
 
 // What the kind entry answers: code 0, 1 or 2, and the kind, which is open with codes 1 and 2.
@@ -34,7 +44,55 @@ pub const LONGEST: usize = 255;
 // An output of so many bytes is long enough for every result.
 pub const ROOM: usize = 340;
 
-// Writes the first n bytes of text to the front of out, if out has room for them.
+// Checking: the word's length, and then its bytes.
+fn check_word(word: &[u8]) -> Checked
+    ensures { λ r. ⌜ r ≡ checked (now (word .entry)) ⌝ }
+{
+    if word.len() > LONGEST {
+        return Checked::Overlong;
+    }
+    if well_formed(word) {
+        return Checked::Accepted;
+    }
+    Checked::Malformed
+}
+
+// A new environment for an accepted word.
+fn entered(word: &[u8]) -> Env
+    requires { ⌜ checked (now word) ≡ Checked.Accepted ⌝ }
+    ensures { λ r. ⌜ Stands r (started (letters (now (word .entry)))) × (r .limit ≤ mostBytes) ⌝ }
+{
+    Env::create(word)
+}
+
+// Working out: an environment whose text is the stem of an accepted word.
+fn stemmed(word: &[u8]) -> Env
+    requires { ⌜ checked (now word) ≡ Checked.Accepted ⌝ }
+    ensures { λ r. ⌜ Stands r (started (stem (letters (now (word .entry))))) ⌝ }
+{
+    let env = entered(word);
+    arabic::stem::stem(env)
+}
+
+// Working out: the word normalised.
+fn normalised(word: &[u8]) -> Env
+    requires { ⌜ checked (now word) ≡ Checked.Accepted ⌝ }
+    ensures { λ r. ⌜ Stands r (started (normalise (letters (now (word .entry))))) ⌝ }
+{
+    let env = entered(word);
+    r_Normalize_pre(env)
+}
+
+// Working out: the word finished.
+fn finished(word: &[u8]) -> Env
+    requires { ⌜ checked (now word) ≡ Checked.Accepted ⌝ }
+    ensures { λ r. ⌜ Stands r (started (finish (letters (now (word .entry))))) ⌝ }
+{
+    let env = entered(word);
+    finish_letters(env)
+}
+
+// Delivering: the first n bytes of text to the front of out, if out has room for them.
 fn deliver(text: &[u8], n: usize, out: &mut [u8]) -> Answer
     requires { ⌜ n ≤ length (now text) ⌝ }
     ensures { λ r. ⌜ r ≡ fitting n (length (now (out .entry))) ⌝ }
@@ -47,23 +105,23 @@ fn deliver(text: &[u8], n: usize, out: &mut [u8]) -> Answer
     Answer::Done(n)
 }
 
-// The stem of the word. An output of 340 bytes is always long enough.
+// The stem of the word. An output of ROOM bytes is always long enough.
 pub fn stem(word: &[u8], out: &mut [u8]) -> Answer
     ensures { λ r. ⌜ r ≡ answer stem (now (word .entry)) (length (now (out .entry))) ⌝ }
     ensures { λ r. ⌜ now (out .exit) ≡ outAfter (answer stem (now (word .entry)) (length (now (out .entry)))) (bytesOf stem (now (word .entry))) (now (out .entry)) ⌝ }
     ensures { λ r. ⌜ Demand3After (now (word .entry)) r (now (out .exit)) ⌝ }
-    ensures { λ r. ⌜ (codeOf r ≡ 3 → length (now (out .entry)) < 340) ⌝ }
+    ensures { λ r. ⌜ (codeOf r ≡ 3 → length (now (out .entry)) < enoughRoom) ⌝ }
 {
-    if word.len() > LONGEST {
-        return Answer::TooLong;
+    let c = check_word(word);
+    match c {
+        Checked::Overlong => Answer::TooLong,
+        Checked::Malformed => Answer::NotWellFormed,
+        Checked::Accepted => {
+            let e = stemmed(word);
+            let limit = e.limit;
+            deliver(&e.current, limit, out)
+        }
     }
-    if well_formed(word) {
-        let env = Env::create(word);
-        let e = arabic::stem::stem(env);
-        let limit = e.limit;
-        return deliver(&e.current, limit, out);
-    }
-    Answer::NotWellFormed
 }
 
 // The number of bytes that an answer says were written: none on refusal.
@@ -97,59 +155,60 @@ pub fn stem_part<'a>(word: &[u8], out: &'a mut [u8]) -> &'a mut [u8]
     &mut out[..n]
 }
 
-// The word normalised: item 2 alone. An output of 340 bytes is always long enough.
+// The word normalised: item 2 alone. An output of ROOM bytes is always long enough.
 pub fn normalise(word: &[u8], out: &mut [u8]) -> Answer
     ensures { λ r. ⌜ r ≡ answer normalise (now (word .entry)) (length (now (out .entry))) ⌝ }
     ensures { λ r. ⌜ now (out .exit) ≡ outAfter (answer normalise (now (word .entry)) (length (now (out .entry)))) (bytesOf normalise (now (word .entry))) (now (out .entry)) ⌝ }
-    ensures { λ r. ⌜ (codeOf r ≡ 3 → length (now (out .entry)) < 340) ⌝ }
+    ensures { λ r. ⌜ (codeOf r ≡ 3 → length (now (out .entry)) < enoughRoom) ⌝ }
 {
-    if word.len() > LONGEST {
-        return Answer::TooLong;
+    let c = check_word(word);
+    match c {
+        Checked::Overlong => Answer::TooLong,
+        Checked::Malformed => Answer::NotWellFormed,
+        Checked::Accepted => {
+            let e = normalised(word);
+            let limit = e.limit;
+            deliver(&e.current, limit, out)
+        }
     }
-    if well_formed(word) {
-        let env = Env::create(word);
-        let e = r_Normalize_pre(env);
-        let limit = e.limit;
-        return deliver(&e.current, limit, out);
-    }
-    Answer::NotWellFormed
 }
 
-// The word finished: item 5 on the word as given. An output of 340 bytes is always long enough.
+// The word finished: item 5 on the word as given. An output of ROOM bytes is always long enough.
 pub fn finish(word: &[u8], out: &mut [u8]) -> Answer
     ensures { λ r. ⌜ r ≡ answer finish (now (word .entry)) (length (now (out .entry))) ⌝ }
     ensures { λ r. ⌜ now (out .exit) ≡ outAfter (answer finish (now (word .entry)) (length (now (out .entry)))) (bytesOf finish (now (word .entry))) (now (out .entry)) ⌝ }
-    ensures { λ r. ⌜ (codeOf r ≡ 3 → length (now (out .entry)) < 340) ⌝ }
+    ensures { λ r. ⌜ (codeOf r ≡ 3 → length (now (out .entry)) < enoughRoom) ⌝ }
 {
-    if word.len() > LONGEST {
-        return Answer::TooLong;
+    let c = check_word(word);
+    match c {
+        Checked::Overlong => Answer::TooLong,
+        Checked::Malformed => Answer::NotWellFormed,
+        Checked::Accepted => {
+            let e = finished(word);
+            let limit = e.limit;
+            deliver(&e.current, limit, out)
+        }
     }
-    if well_formed(word) {
-        let env = Env::create(word);
-        let e = finish_letters(env);
-        let limit = e.limit;
-        return deliver(&e.current, limit, out);
-    }
-    Answer::NotWellFormed
 }
 
 // The kind of the word: item 1.
 pub fn kind(word: &[u8]) -> KindAnswer
     ensures { λ r. ⌜ r ≡ kindAnswer (now (word .entry)) ⌝ }
 {
-    if word.len() > LONGEST {
-        return KindAnswer {
+    let c = check_word(word);
+    match c {
+        Checked::Overlong => KindAnswer {
             code: 1,
             kind: Kind::OPEN,
-        };
-    }
-    if well_formed(word) {
-        let kind = kind_of(word, word.len());
-        return KindAnswer { code: 0, kind };
-    }
-    KindAnswer {
-        code: 2,
-        kind: Kind::OPEN,
+        },
+        Checked::Malformed => KindAnswer {
+            code: 2,
+            kind: Kind::OPEN,
+        },
+        Checked::Accepted => {
+            let kind = kind_of(word, word.len());
+            KindAnswer { code: 0, kind }
+        }
     }
 }
 
