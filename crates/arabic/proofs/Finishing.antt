@@ -18,6 +18,7 @@ use Rattle.utf8.specs.Letters.{SomeLetter, Read, Wrote}
 use Rattle.arabic.specs.Bytes.{Encodes, LetterFrom}
 use Rattle.utf8.specs.declared.letters.Letter.{Letter}
 use Rattle.arabic.specs.Texts.{changed, Finished}
+use Rattle.snowball.specs.Stands.{workSize}
 use Rattle.arabic.proofs.Changes.{changed-size, changed-top}
 use Rattle.arabic.proofs.Ahead as ahead
 use Rattle.arabic.proofs.Ahead.{Ahead, Next, cons-size}
@@ -31,9 +32,9 @@ pub record Inv (old : List ℕ) (limit turns : ℕ) (text : List ℕ) (i turn : 
   pub to : Ahead text i limit (drop limit old) rest
   pub bytes : take i text ++ encode (finish rest) ≡ encode (finish word)
   pub enough : turn + length rest ≤ turns
-  pub size : length text ≡ 340
+  pub size : length text ≡ workSize
 
-pub start : (text : List ℕ) (limit turns : ℕ) (cs : Word) → limit ≤ 340 → length text ≡ 340 → Encodes (take limit text) cs → length cs ≤ turns
+pub start : (text : List ℕ) (limit turns : ℕ) (cs : Word) → limit ≤ workSize → length text ≡ workSize → Encodes (take limit text) cs → length cs ≤ turns
     → Inv text limit turns text 0 0
 start text limit turns cs h z e l =
     record {
@@ -72,7 +73,7 @@ module _ {old : List ℕ} {limit turns : ℕ} {text : List ℕ} {i k : ℕ} (v :
     moves = omega (arith, is .1, n .ends)
 
     -- its bytes
-    pub letter-from : limit ≤ 340 → LetterFrom text i (i + l .width) (l .code)
+    pub letter-from : limit ≤ workSize → LetterFrom text i (i + l .width) (l .code)
     unfolding between
     letter-from k =
         let z : (i + l .width) - i ≡ length (encode1 (n .c)) = omega (arith, is .1) in

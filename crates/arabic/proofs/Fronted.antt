@@ -28,7 +28,7 @@ use Rattle.snowball.specs.Search.{between, Ahead}
 use Rattle.snowball.specs.Cut.{moved}
 use Rattle.snowball.specs.Match.{standsAt}
 use Rattle.snowball.specs.Chars.{Chars, withCursor, sliceFrom}
-use Rattle.snowball.specs.Stands.{Stands}
+use Rattle.snowball.specs.Stands.{workSize, Stands}
 use Rattle.snowball.proofs.Cut.{moved-behind}
 use Rattle.snowball.proofs.Read.{keys-length, keys-at}
 use Rattle.snowball.proofs.Answers.{low-scalars}
@@ -133,7 +133,7 @@ module _ (x : Env) (w : Fronting) (st : Fronts x w) where
   text-length : length (text w) ≡ cursorOf w + length (w .rest)
   text-length = ap length split ∙ length-append (w .headLetter ++ w .passed) (w .rest)
 
-  pub front-fits : (x .cursor ≤ x .limit) × (x .limit ≤ 340)
+  pub front-fits : (x .cursor ≤ x .limit) × (x .limit ≤ workSize)
   front-fits = (cursor-within x (atFront w) st, st .within)
 
   pub rest-scalars : Scalars (w .rest)
@@ -264,7 +264,7 @@ module _ (s : PrefixStep) (w : Fronting) (x : Env) (st : Fronts x w) (f : Found)
         marked-stands : (r : ℕ) (q : taken (beginsWith (w .rest)) (prefix s) (length (text w)) ≡ some r) → Stands marked (withCursor (atFront w) (behind r))
         marked-stands r q = with-cursor x (atFront w) st (behind r) (f .cursor) (place r q)
 
-        pub can-slice : ((c : Chars) × Stands marked c) × ((x .cursor ≤ f .cursor) × ((f .cursor ≤ x .limit) × (x .limit - (f .cursor - x .cursor) + length (take n (getD news k [])) ≤ 340)))
+        pub can-slice : ((c : Chars) × Stands marked c) × ((x .cursor ≤ f .cursor) × ((f .cursor ≤ x .limit) × (x .limit - (f .cursor - x .cursor) + length (take n (getD news k [])) ≤ workSize)))
         unfolding encode
         can-slice =
             let r : ℕ = row-taken .0 in

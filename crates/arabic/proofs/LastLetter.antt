@@ -21,7 +21,7 @@ use Rattle.snowball.specs.declared.among.Found.{Found}
 use Rattle.snowball.specs.Search.{Behind}
 use Rattle.snowball.specs.Cut.{moved}
 use Rattle.snowball.specs.Chars.{Chars, sliceFrom}
-use Rattle.snowball.specs.Stands.{Stands}
+use Rattle.snowball.specs.Stands.{workSize, Stands}
 use Rattle.snowball.proofs.Cut.{moved-behind}
 use Rattle.arabic.specs.Endings.{atEnd}
 
@@ -73,7 +73,7 @@ module _ (x : Env) (w : Word) (st : Stands x (atEnd w)) (f : Found) (b : Behind 
     place : At w m (f .cursor)
     place = let l = lengths in (omega (arith, l .0, l .2), omega (arith, l .1, l .3, st .sized))
 
-    pub room : (f .cursor ≤ x .limit) × (x .limit - (x .limit - f .cursor) + 2 ≤ 340)
+    pub room : (f .cursor ≤ x .limit) × (x .limit - (x .limit - f .cursor) + 2 ≤ workSize)
     room = let l = lengths in (omega (arith, l .3), omega (arith, l .1, l .3, st .sized, st .within))
 
     pub is-last : (y : Env) → ((c : Chars) → Stands x c → (b k : ℕ) → At (c .text) b (f .cursor) → At (c .text) k (x .cursor) → c .back ≤ b → Stands y (sliceFrom c b k (yeh ∷ [])))

@@ -13,7 +13,8 @@ use Rattle.utf8.specs.Letters.{SomeLetter, Read, Wrote}
 use Rattle.arabic.specs.Bytes.{Encodes}
 use Rattle.utf8.specs.declared.letters.Letter.{Letter}
 use Rattle.arabic.specs.Rows.{classes, rowOf, classOf}
-use Rattle.arabic.specs.Texts.{Normalised}
+use Rattle.arabic.specs.Texts.{longestWord, Normalised}
+use Rattle.snowball.specs.Stands.{workSize}
 use Rattle.utf8.proofs.ReadLetter.{scalar-top}
 use Rattle.arabic.proofs.Table.{grows, class-at, class-small, normal-class}
 use Rattle.arabic.proofs.Ahead as ahead
@@ -27,9 +28,9 @@ pub record Inv (text : List ℕ) (limit i : ℕ) (out : List ℕ) (at : ℕ) : T
   pub to : Ahead text i limit (drop limit text) rest
   pub bytes : take at out ++ encode (normalise rest) ≡ encode (normalise word)
   pub bound : 3 * at ≤ 4 * i
-  pub size : length out ≡ 340
+  pub size : length out ≡ workSize
 
-pub start : (text : List ℕ) (limit : ℕ) (out cs : List ℕ) → limit ≤ length text → length out ≡ 340 → Encodes (take limit text) cs
+pub start : (text : List ℕ) (limit : ℕ) (out cs : List ℕ) → limit ≤ length text → length out ≡ workSize → Encodes (take limit text) cs
     → Inv text limit 0 out 0
 start text limit out cs h z e =
     record {
@@ -77,7 +78,7 @@ module _ {text : List ℕ} {limit i : ℕ} {out : List ℕ} {at : ℕ} (v : Inv 
       pub class-top : class < 56
       class-top = is-normal .0
 
-      pub room : limit ≤ 255 → at + length (encode (given (l .code) class)) ≤ 340
+      pub room : limit ≤ longestWord → at + length (encode (given (l .code) class)) ≤ workSize
       room m = omega (arith, ap (λ (x : Word). length (encode x)) (is-normal .1), grows (n .c), v .bound, n .ends)
 
       rest-bytes : encode (normalise (v .rest)) ≡ encode (given (l .code) class) ++ encode (normalise (n .t))
@@ -103,7 +104,7 @@ module _ {text : List ℕ} {limit i : ℕ} {out : List ℕ} {at : ℕ} (v : Inv 
             size = u .size ∙ v .size;
           }
 
-  pub done : limit ≤ 255 → limit ≤ i → (cs : Word) → Encodes (take limit text) cs → Normalised cs out at
+  pub done : limit ≤ longestWord → limit ≤ i → (cs : Word) → Encodes (take limit text) cs → Normalised cs out at
   unfolding normalise encode
   done h l cs e =
       let z = ahead.none-left text i limit (drop limit text) (v .rest) (v .to) l in
@@ -113,5 +114,5 @@ module _ {text : List ℕ} {limit i : ℕ} {out : List ℕ} {at : ℕ} (v : Inv 
       ∙ ap (λ (x : Word). take at out ++ encode (normalise x)) (sym z)
       ∙ v .bytes
       ∙ ap (λ (x : Word). encode (normalise x)) w in
-      let m : at ≤ 340 = omega (arith, v .bound, v .to .ends) in
+      let m : at ≤ workSize = omega (arith, v .bound, v .to .ends) in
       record { bytes = b; sized = omega (arith, ap length b, length-take-le at out (omega (arith, v .size))); within = m }

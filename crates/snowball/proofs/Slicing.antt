@@ -11,7 +11,7 @@ use Rattle.definition.proofs.Match.{by-le}
 use Rattle.utf8.proofs.Text.{encode-append, scalars-append}
 use Rattle.utf8.proofs.Places.{take-size, drop-size, size-append, size-mono, size-strict}
 use Rattle.snowball.specs.Cut.{replaced, moved}
-use Rattle.snowball.specs.Stands.{Sliced}
+use Rattle.snowball.specs.Stands.{workSize, Sliced}
 use Rattle.snowball.specs.Bytes.{Replaced}
 use Rattle.snowball.specs.declared.env.Env.{Env}
 use Rattle.snowball.proofs.Cut.{moved-behind, moved-inside, moved-before, tail-bytes}
@@ -84,7 +84,7 @@ module _ (t cs : List ℕ) (b k : ℕ) (o : b ≤ k) (l : k ≤ length t) where
       (place-before b (size (take b t)) (omega arith) (omega arith, refl))))
 
 -- bytes replaced between two places are letters replaced
-pub sliced : (e r : Env) (key cs : List ℕ) → e .bra ≤ e .ket → Replaced e (e .bra) (e .ket) key r → r .limit ≤ 340 → Scalars cs → key ≡ encode cs
+pub sliced : (e r : Env) (key cs : List ℕ) → e .bra ≤ e .ket → Replaced e (e .bra) (e .ket) key r → r .limit ≤ workSize → Scalars cs → key ≡ encode cs
     → Sliced e cs r
 sliced e r key cs o rp room sc ek s st b k pb pk ob =
     let t = s .text in
@@ -104,7 +104,7 @@ sliced e r key cs o rp room sc ek s st b k pb pk ob =
     }
 
 -- the same where what is deleted ends the text, and only limit and the cursor change
-module _ (e : Env) (cursor : ℕ) (o : e .bra ≤ e .ket) (z : e .ket ≡ e .limit) (room : e .limit ≤ 340)
+module _ (e : Env) (cursor : ℕ) (o : e .bra ≤ e .ket) (z : e .ket ≡ e .limit) (room : e .limit ≤ workSize)
     (m : cursor ≡ moved (e .cursor) (e .bra) (e .limit) 0) where
   abbrev shortened : Env
   shortened =

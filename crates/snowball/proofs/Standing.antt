@@ -10,7 +10,7 @@ use Rattle.utf8.specs.Places.{size, starts, At, NextStart, LastStart}
 use Rattle.utf8.proofs.Places.{next-place, last-place}
 use Rattle.snowball.specs.Match.{standsAt}
 use Rattle.snowball.specs.Chars.{Chars, withCursor, started, eqS}
-use Rattle.snowball.specs.Stands.{Standing, Stands}
+use Rattle.snowball.specs.Stands.{workSize, Standing, Stands}
 use Rattle.snowball.specs.Bytes.{Created}
 use Rattle.snowball.specs.declared.env.Env.{Env}
 use Rattle.snowball.proofs.Places.{place-within, place-inside, place-after, first-starts}
@@ -18,7 +18,7 @@ use Rattle.snowball.proofs.Match.{stands-encode, place-match}
 
 -- ---- a new environment
 
-pub created : (word : List ℕ) (r : Env) (cs : List ℕ) → Created word r → length word ≤ 340 → Scalars cs → word ≡ encode cs → Stands r (started cs)
+pub created : (word : List ℕ) (r : Env) (cs : List ℕ) → Created word r → length word ≤ workSize → Scalars cs → word ≡ encode cs → Stands r (started cs)
 unfolding encode
 created word r cs c h sc e =
     record {

@@ -8,6 +8,7 @@ use borrow.Author.Needs.{needs}
 use Rattle.arabic.proofs.Fronted.{not-replaced, in-lens, in-news, in-new, can-slice, is-replaced}
 use Rattle.arabic.proofs.prefix_halves.replace_front.Statement.{statement}
 use Rattle.arabic.proofs.prefix_halves.replace_front.Tie as tie
+use Rattle.snowball.specs.Stands.{workSize}
 
 none-less : (n : ℕ) → n ≡ n - 0
 none-less n = omega arith
@@ -68,7 +69,7 @@ slice-from-requires c κs =
     let s = d .before .before in
     let p = s .pre in
     let h = can-slice (p .0) (p .1 .0) (s .args .env) (p .1 .1 .0) (s .args .f) (p .1 .1 .1 .0) (d .if1 .left) (s .args .news .now) (s .args .lens .now) (p .1 .1 .1 .1) (v .wide .result) (v .wide .ensures) (v2 .wide2 .result) (v2 .wide2 .ensures) in
-    (h .0, h .1 .0, h .1 .1 .0, subst (λ (n : ℕ). s .args .env .limit - (s .args .f .cursor - s .args .env .cursor) + length (take n (getD (s .args .news .now) (v .wide .result) [])) ≤ 340) (none-less (v2 .wide2 .result)) (h .1 .1 .1))
+    (h .0, h .1 .0, h .1 .1 .0, subst (λ (n : ℕ). s .args .env .limit - (s .args .f .cursor - s .args .env .cursor) + length (take n (getD (s .args .news .now) (v .wide .result) [])) ≤ workSize) (none-less (v2 .wide2 .result)) (h .1 .1 .1))
 
 returns-2 : tie.Need-returns-2
 returns-2 c =

@@ -5,6 +5,7 @@ use native.Mathlib.Omega.{arith}
 use lib.ListN.{length, length-replicate, replicate}
 use borrow.Author.Needs.{needs}
 use Rattle.snowball.specs.Bytes.{Created}
+use Rattle.snowball.specs.Stands.{workSize}
 use Rattle.snowball.proofs.Copy.{front-bytes}
 use Rattle.snowball.proofs.Standing.{created}
 use Rattle.snowball.proofs.env.Env.create.Statement.{statement}
@@ -16,7 +17,7 @@ put-requires c κs = search needs
 returns : tie.Need-returns
 returns c =
     let w = c .before .before .before .args .word .now in
-    let n : length (replicate {A = ℕ} 340 0) ≡ 340 = length-replicate {A = ℕ} 340 0 in
+    let n : length (replicate {A = ℕ} 340 0) ≡ workSize = length-replicate {A = ℕ} 340 0 in
     let r : Created w _ =
     record {
       bytes = front-bytes (c .put .last .0) (replicate 340 0) w (c .put .ensures) (omega arith);

@@ -6,12 +6,13 @@ use borrow.Author.Needs.{needs}
 use Rattle.snowball.proofs.Standing.{cursor-within, first-start, previous-stands}
 use Rattle.snowball.proofs.env.Env.previous_char.Statement.{statement}
 use Rattle.snowball.proofs.env.Env.previous_char.Tie as tie
+use Rattle.snowball.specs.Stands.{workSize}
 
 last-start-requires : tie.Need-last-start-requires
 last-start-requires c κs =
     let x = c .before .before .before .args .t1 in
     let p = c .before .before .before .pre in
-    let n : length (x .current) ≡ 340 = search needs in
+    let n : length (x .current) ≡ workSize = search needs in
     (omega (arith, cursor-within x (p .0 .0) (p .0 .1), p .0 .1 .within), p .1, first-start x (p .0 .0) (p .0 .1) (p .1))
 
 returns : tie.Need-returns

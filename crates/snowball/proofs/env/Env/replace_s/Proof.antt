@@ -10,6 +10,7 @@ use Rattle.snowball.proofs.Copy.{whole-length, copied-bytes}
 use Rattle.snowball.proofs.Cut.{moved-behind, moved-inside, moved-before}
 use Rattle.snowball.proofs.env.Env.replace_s.Statement.{statement}
 use Rattle.snowball.proofs.env.Env.replace_s.Tie as tie
+use Rattle.snowball.specs.Stands.{workSize}
 
 sub-cut : tie.Need-sub-cut
 sub-cut c = search needs
@@ -28,7 +29,7 @@ put-requires-2 c κs =
     let p = c .before .before in
     let a = p .before .before .before .before in
     let x = a .args in
-    let n : length (x .t1 .current) ≡ 340 = owned-length (x .t1) _ (a .good .0) in
+    let n : length (x .t1 .current) ≡ workSize = owned-length (x .t1) _ (a .good .0) in
     (whole-length (p .put .last .0) (x .t1 .current) (x .bra) (x .s .now) (p .put .ensures) (omega arith) ∙ n, omega arith, omega arith, omega arith)
 
 sub-cursor : tie.Need-sub-cursor
@@ -49,7 +50,7 @@ returns c =
     let a = p .before .before .before .before in
     let x = a .args in
     let k : ℕ = length (x .s .now) in
-    let n : length (x .t1 .current) ≡ 340 = owned-length (x .t1) _ (a .good .0) in
+    let n : length (x .t1 .current) ≡ workSize = owned-length (x .t1) _ (a .good .0) in
     record {
       bytes = copied-bytes (x .t1 .current) (p .put .last .0) (c .before .put2 .last .0) (x .s .now) (x .bra) (x .ket) (x .t1 .limit)
           (omega arith) (omega arith) (omega arith) (omega arith) (p .put .ensures) (c .before .put2 .ensures);
