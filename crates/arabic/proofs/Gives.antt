@@ -1,6 +1,6 @@
 -- What a class of A_0 gives, read off the number that holds its letters. Assumes nothing.
 use mathlib.Core.Path.{_≡_, refl, sym, ap, _∙_}
-use mathlib.Core.Bool.{Bool, true}
+use mathlib.Core.Bool.{true}
 use mathlib.Core.List.{[], _∷_, _++_}
 use Prim.Native.Nat.{ℕ, zero, suc, _+_, _/_, _%_, _≤_, _<_}
 use native.Mathlib.Omega.{arith}
@@ -10,18 +10,15 @@ use borrow.Author.Tests.{ltb-true, ne-eqb, lt-ltb, le-ltb}
 use Rattle.utf8.specs.Utf8.{Scalar, Scalars, encode1, encode}
 use Rattle.utf8.proofs.Text.{encode-one, encode-append, scalars-append}
 use Rattle.definition.specs.Words.{Word, both, every, same}
-use Rattle.definition.specs.Tables.{Row, Table}
+use Rattle.definition.specs.Tables.{Table}
 use Rattle.definition.specs.Normal.{gives, listedFor, given, normal, normalise}
 use Rattle.definition.proofs.Match.{both-0, both-1, by, same-eq}
 use Rattle.snowball.specs.Rows.{low}
 use Rattle.snowball.proofs.Answers.{low-scalars}
-use Rattle.arabic.specs.Rows.{classOf, packed, unpacked, givenFrom, packedGives, rightLetters}
+use Rattle.arabic.specs.Rows.{classOf, packed, unpacked, givenFrom, packedGives, rightLetters, rightFor}
 use Rattle.arabic.proofs.Table.{right-gives, kept, normal-class}
 
 -- ---- what the test of A_0 says of the letters that a class gives
-
-abbrev rightFor : Row → Bool
-rightFor r = rightLetters (r .letters)
 
 right-for : (t : Table) → every rightFor t ≡ true → (k : ℕ) → rightLetters (listedFor t k) ≡ true
 unfolding listedFor same

@@ -14,7 +14,7 @@ use Rattle.arabic.specs.Rows.{classes, rowOf, classOf, rightTable}
 use Rattle.arabic.proofs.Table.{right-table, class-at, normalise-grows}
 use Rattle.arabic.proofs.Changes.{finish-size}
 
--- the one test of A_0: its keys rise, each row is a letter with a class, and what each gives fits
+-- the one test of A_0: 161 rows, whose keys rise, each of one letter and a class, with what each class gives
 pub main-table : rightTable ≡ true
 main-table = right-table
 

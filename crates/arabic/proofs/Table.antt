@@ -18,11 +18,7 @@ use Rattle.definition.specs.Normal.{gives, listedFor, given, normal, normalise}
 use Rattle.definition.proofs.Match.{both-0, both-1, begins-split, begins-of}
 use Rattle.definition.proofs.Found.{longest-found, row-behind}
 use Rattle.definition.proofs.Unique.{longest-at, longest-none}
-use Rattle.arabic.specs.Rows.{keyOf, keys, classes, rowOf, classOf, rightRow, rightRows, rightLetters, rightTable}
-
-length-rows : length «A_0» ≡ 161
-unfolding «A_0»
-length-rows = refl
+use Rattle.arabic.specs.Rows.{keyOf, keys, classes, rowOf, classOf, rightRow, rightRows, rightFor, rightTable}
 
 -- ---- the one test, and its parts
 
@@ -30,11 +26,17 @@ pub right-table : rightTable ≡ true
 unfolding «A_0» given gives listedFor encode encode1 same
 right-table = refl
 
-right-rows : rightRows 0 «A_0» ≡ true
-right-rows = both-0 (rightRows 0 «A_0») (every (λ (r : Row). rightLetters (r .letters)) gives) right-table
+length-rows : length «A_0» ≡ 161
+length-rows = eqb-true (length «A_0») 161 (both-0 (eqb (length «A_0») 161) (both (rightRows 0 «A_0») (every rightFor gives)) right-table)
 
-pub right-gives : every (λ (r : Row). rightLetters (r .letters)) gives ≡ true
-right-gives = both-1 (rightRows 0 «A_0») (every (λ (r : Row). rightLetters (r .letters)) gives) right-table
+rows-and-gives : both (rightRows 0 «A_0») (every rightFor gives) ≡ true
+rows-and-gives = both-1 (eqb (length «A_0») 161) (both (rightRows 0 «A_0») (every rightFor gives)) right-table
+
+right-rows : rightRows 0 «A_0» ≡ true
+right-rows = both-0 (rightRows 0 «A_0») (every rightFor gives) rows-and-gives
+
+pub right-gives : every rightFor gives ≡ true
+right-gives = both-1 (rightRows 0 «A_0») (every rightFor gives) rows-and-gives
 
 -- the test of a table, taken apart at its first row
 module _ (p : ℕ) (r : Row) (t : Table) (e : rightRows p (r ∷ t) ≡ true) where

@@ -67,5 +67,8 @@ rightRows p (r ∷ t) = both (ltb p (keyOf r)) (both (rightRow r) (rightRows (ke
 abbrev pub rightLetters : Word → Bool
 rightLetters w = both (same (unpacked (packed w)) w) (both (ltb (packed w) 0x10000000) (low w))
 
+abbrev pub rightFor : Row → Bool
+rightFor r = rightLetters (r .letters)
+
 abbrev pub rightTable : Bool
-rightTable = both (rightRows 0 «A_0») (every (λ (r : Row). rightLetters (r .letters)) gives)
+rightTable = both (eqb (length «A_0») 161) (both (rightRows 0 «A_0») (every rightFor gives))

@@ -1,5 +1,5 @@
 -- `normalize::give_listed` meets its contract: the letters in the number of a class are those that it gives. Assumes nothing.
-use mathlib.Core.Path.{ap, _∙_}
+use mathlib.Core.Path.{ap}
 use native.Mathlib.Omega.{arith}
 use lib.ListN.{length, length-append}
 use Rattle.utf8.proofs.WriteLetter.{wrote-none, wrote-both}

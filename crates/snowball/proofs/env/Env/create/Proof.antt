@@ -17,10 +17,10 @@ put-requires c κs = search needs
 returns : tie.Need-returns
 returns c =
     let w = c .before .before .before .args .word .now in
-    let n : length (replicate {A = ℕ} 340 0) ≡ workSize = length-replicate {A = ℕ} 340 0 in
+    let n : length (replicate {A = ℕ} workSize 0) ≡ workSize = length-replicate {A = ℕ} workSize 0 in
     let r : Created w _ =
     record {
-      bytes = front-bytes (c .put .last .0) (replicate 340 0) w (c .put .ensures) (omega arith);
+      bytes = front-bytes (c .put .last .0) (replicate workSize 0) w (c .put .ensures) (omega arith);
       limit = refl;
       cursor = refl;
       limit-backward = refl;
