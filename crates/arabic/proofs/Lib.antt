@@ -1,3 +1,4 @@
+-- The main theorems, and the laws that the proofs of the Arabic steps cite.
 pub mod Main
 pub mod Guarded
 pub mod Ending

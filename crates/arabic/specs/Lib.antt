@@ -1,3 +1,4 @@
+-- What the contracts of the Arabic steps cite: what an environment stands for, and what a step answers.
 pub mod Tried
 pub mod Endings
 pub mod Nests

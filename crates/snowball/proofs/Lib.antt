@@ -1,3 +1,4 @@
+-- The main theorems of the searches, and the laws of tables, searches and environments.
 pub mod Main
 pub mod Order
 pub mod Table

@@ -1,3 +1,4 @@
+-- What the contracts of the searches and of the environment cite.
 pub mod Rows
 pub mod Search
 pub mod Cut
