@@ -1,5 +1,6 @@
--- `stem_lines::pump` meets its contract: from turn to turn the state is that of the bytes passed. Assumes what the toolchain declares of `write`.
+-- `stem_lines::pump` meets its contract: from turn to turn the state is that of the bytes passed. Assumes what the toolchain declares of `write`, `sched_yield` and errno.
 use mathlib.Core.Path.{_≡_, refl, sym, ap, _∙_}
+use mathlib.Core.Bool.{false≢true}
 use Prim.Native.Nat.{_-_, _≤_}
 use native.Mathlib.Omega.{arith}
 use lib.ListN.{length, take, drop}
@@ -39,37 +40,46 @@ slice-reshare-prefix-write-all c = search needs
 
 slice-aggregate-write-all : tie.Need-slice-aggregate-write-all Inv-loop μ-loop
 slice-aggregate-write-all c =
-    let x = c .before .before .before .before .before .feed in
+    let x = c .before .before .before .before .before .before .feed in
     sym (length-take-le (x .result .count) (x .last .1 .1 .1 .0) (x .ensures .1 .fits))
 
 write-all-requires : tie.Need-write-all-requires Inv-loop μ-loop
 write-all-requires c κs = search needs
 
+same-length : tie.Need-same-length Inv-loop μ-loop
+same-length c = search needs
+
+same-length-2 : tie.Need-same-length-2 Inv-loop μ-loop
+same-length-2 c = search needs
+
+returns : tie.Need-returns Inv-loop μ-loop
+returns c = (c .before .before .before .before .before .before .before .before .feed .ensures .0, λ e. absurd (false≢true e))
+
 add-at : tie.Need-add-at Inv-loop μ-loop
 add-at c =
-    let l = c .before .before .before .before .before .before .before .before .before .before .before .before .before .loop in
-    let a = c .before .before .before .before .before .before .before .before .before .before .before .before .before .before .before .before .before .args in
-    let x = c .before .before .before .before .before .before .before .before .feed in
+    let l = c .before .before .before .before .before .before .before .before .before .before .before .before .before .before .loop in
+    let a = c .before .before .before .before .before .before .before .before .before .before .before .before .before .before .before .before .before .before .args in
+    let x = c .before .before .before .before .before .before .before .before .before .feed in
     let r = rest-length (a .input .now) (l .at) in
-    omega (arith, r, x .ensures .1 .within, c .before .before .before .before .before .before .before .before .before .before .before .before .before .before .before .before .before .good)
+    omega (arith, r, x .ensures .1 .within, c .before .before .before .before .before .before .before .before .before .before .before .before .before .before .before .before .before .before .good)
 
 loop-less : tie.Need-loop-less Inv-loop μ-loop
 loop-less c =
-    let l = c .before .before .before .before .before .before .before .before .before .before .before .before .before .loop in
-    let p = c .before .before .before .before .before .before .before .before .before .before .before .before .before .before .before .before .before in
+    let l = c .before .before .before .before .before .before .before .before .before .before .before .before .before .before .loop in
+    let p = c .before .before .before .before .before .before .before .before .before .before .before .before .before .before .before .before .before .before in
     let a = p .args in
-    let x = c .before .before .before .before .before .before .before .before .feed in
+    let x = c .before .before .before .before .before .before .before .before .before .feed in
     let r = rest-length (a .input .now) (l .at) in
     let room : lineRoom ≤ length (l .out) = omega (arith, l .inv .1 .1 .1 .0, p .pre .1) in
     let some = taken-some (length (l .out)) (reading (l .s) (l .line)) (take (length (a .input .now) - l .at) (drop (l .at) (a .input .now))) room
-    (omega (arith, r, c .before .before .before .before .before .before .before .before .before .before .before .before .loop-test .taken)) in
+    (omega (arith, r, c .before .before .before .before .before .before .before .before .before .before .before .before .before .loop-test .taken)) in
     omega (arith, r, some, x .ensures .1 .takes, x .ensures .1 .within)
 
 loop-again : tie.Need-loop-again Inv-loop μ-loop
 loop-again c =
-    let l = c .before .before .before .before .before .before .before .before .before .before .before .before .before .loop in
-    let a = c .before .before .before .before .before .before .before .before .before .before .before .before .before .before .before .before .before .args in
-    let x = c .before .before .before .before .before .before .before .before .feed in
+    let l = c .before .before .before .before .before .before .before .before .before .before .before .before .before .before .loop in
+    let a = c .before .before .before .before .before .before .before .before .before .before .before .before .before .before .before .before .before .before .args in
+    let x = c .before .before .before .before .before .before .before .before .before .feed in
     let r = rest-length (a .input .now) (l .at) in (
       omega (arith, r, x .ensures .1 .within),
       (
@@ -86,18 +96,18 @@ loop-again c =
       ),
     )
 
-same-length : tie.Need-same-length Inv-loop μ-loop
-same-length c = search needs
+same-length-3 : tie.Need-same-length-3 Inv-loop μ-loop
+same-length-3 c = search needs
 
-same-length-2 : tie.Need-same-length-2 Inv-loop μ-loop
-same-length-2 c = search needs
+same-length-4 : tie.Need-same-length-4 Inv-loop μ-loop
+same-length-4 c = search needs
 
-returns : tie.Need-returns Inv-loop μ-loop
-returns c =
+returns-2 : tie.Need-returns-2 Inv-loop μ-loop
+returns-2 c =
     let l = c .before .loop in
     let a = c .before .before .before .before .before .args in
     let e : l .at ≡ length (a .input .now) = omega arith in
-    (l .inv .1 .1 .0, rw (e, take-length) at (l .inv .1 .1 .1 .1))
+    (l .inv .1 .1 .0, λ q. rw (e, take-length) at (l .inv .1 .1 .1 .1))
 
 pub pump-spec : {M : Type 1} → statement M
 pump-spec =
@@ -113,9 +123,12 @@ pump-spec =
     slice-reshare-prefix-write-all
     slice-aggregate-write-all
     write-all-requires
+    same-length
+    same-length-2
+    returns
     add-at
     loop-less
     loop-again
-    same-length
-    same-length-2
-    returns)
+    same-length-3
+    same-length-4
+    returns-2)

@@ -1,4 +1,4 @@
--- `stem_lines::run` meets its contract: the lengths stay, and each read counts one down. Assumes what the toolchain declares of `read` and `write`.
+-- `stem_lines::run` meets its contract: the lengths stay, and each read counts one down. Assumes what the toolchain declares of `read`, `write`, `sched_yield` and errno.
 use mathlib.Core.Path.{_≡_}
 use Prim.Native.Nat.{_≤_}
 use lib.ListN.{length}
@@ -8,11 +8,11 @@ use Rattle.stem_lines.proofs.run.Statement.{statement}
 use Rattle.stem_lines.proofs.run.Tie as tie
 
 abbrev Inv-loop : tie.InvT-loop
-Inv-loop line₀ buf₀ out₀ s₀ more₀ reads₀ line buf out s more reads =
+Inv-loop line₀ buf₀ out₀ s₀ good₀ more₀ reads₀ line buf out s good more reads =
     (length line ≡ length line₀) × ((s .len ≤ keptBytes) × ((length out ≡ length out₀) × (length buf ≡ length buf₀)))
 
 abbrev μ-loop : tie.MeasureT-loop
-μ-loop line₀ buf₀ out₀ s₀ more₀ reads₀ line buf out s more reads = reads
+μ-loop line₀ buf₀ out₀ s₀ good₀ more₀ reads₀ line buf out s good more reads = reads
 
 start-requires : tie.Need-start-requires Inv-loop μ-loop
 start-requires c κs = search needs
@@ -47,6 +47,18 @@ same-length-3 c = search needs
 returns : tie.Need-returns Inv-loop μ-loop
 returns c = search needs
 
+same-length-4 : tie.Need-same-length-4 Inv-loop μ-loop
+same-length-4 c = search needs
+
+same-length-5 : tie.Need-same-length-5 Inv-loop μ-loop
+same-length-5 c = search needs
+
+same-length-6 : tie.Need-same-length-6 Inv-loop μ-loop
+same-length-6 c = search needs
+
+returns-2 : tie.Need-returns-2 Inv-loop μ-loop
+returns-2 c = search needs
+
 pub run-spec : {M : Type 1} → statement M
 run-spec =
     tie.close
@@ -63,4 +75,8 @@ run-spec =
     same-length
     same-length-2
     same-length-3
-    returns)
+    returns
+    same-length-4
+    same-length-5
+    same-length-6
+    returns-2)
