@@ -6,4 +6,5 @@ pub mod Runs
 pub mod Opening
 pub mod Splitting
 pub mod Whole
+pub mod Calling
 pub mod Questions

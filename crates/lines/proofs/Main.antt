@@ -1,33 +1,43 @@
 -- What is shown of the line machine beside the functions' contracts, each closed by the file that proves it. Assumes nothing.
-use mathlib.Core.Path.{_≡_, refl, _∙_}
+use mathlib.Core.Path.{_≡_, refl}
 use mathlib.Core.List.{List, [], _∷_, _++_, map, flatten}
-use Prim.Native.Nat.{ℕ, _+_, _≤_, _<_}
+use Prim.Native.Nat.{ℕ, _≤_, _<_}
 use lib.ListN.{length}
-use Rattle.lines.specs.Plain.{lineFeed, questionMark, zeroDigit, skipMark, linesOf, answerLine, output}
-use Rattle.lines.specs.Machine.{Reading, lineRoom, start, after, written, lastLine, inPieces, taken}
+use Rattle.lines.specs.declared.State.{State}
+use Rattle.lines.specs.Plain.{lineFeed, refusal, skipMark, linesOf, answerLine, output}
+use Rattle.lines.specs.Machine.{Reading, stemRoom, lineRoom, start, reading, after, written, lastLine, Feeds}
+use Rattle.lines.specs.Calls.{Calls}
+use Rattle.lines.specs.Facts.{NoLf, Free, shown}
 use Rattle.lines.specs.Examples.{examples}
-use Rattle.stemmer.specs.Entries.{stemBytes}
-use Rattle.lines.proofs.Questions.{Free, no-question}
-use Rattle.lines.proofs.Answering.{line-long}
+use Rattle.stemmer.specs.declared.Answer.{Answer}
+use Rattle.stemmer.specs.Entries.{codeOf, stemBytes, stemAnswer}
+use Rattle.lines.proofs.Questions.{no-question}
+use Rattle.lines.proofs.Answering.{line-long, line-answered}
 use Rattle.lines.proofs.Examples.{examples-right}
-use Rattle.lines.proofs.Runs.{pieces-joined, taken-some}
-use Rattle.lines.proofs.Splitting.{NoLf, line-first, line-last}
+use Rattle.lines.proofs.Splitting.{line-first, line-last}
+use Rattle.lines.proofs.Calling.{calls-output, feeds-some}
 use Rattle.lines.proofs.Whole.{whole}
+
+-- what calls of `feed` and `finish` write for an input in pieces, whatever the pieces and the outputs that they are lent, is what the plain
+-- definition says of the pieces joined; `State::start` gives such a state
+pub main-calls : {s : State} {line : List ℕ} {pieces : List (List ℕ)} {w : List ℕ} → reading s line ≡ start → Calls s line pieces w → w ≡ output (flatten pieces)
+main-calls = calls-output
+
+-- and a call with room for any line takes at least a byte, so that each piece is taken whole by as many calls
+pub main-taken : {i : List ℕ} {s s′ : Reading} {o o′ : List ℕ} {used count : ℕ} → Feeds i s s′ o o′ used count → lineRoom ≤ length o → 1 ≤ length i → 1 ≤ used
+main-taken = feeds-some
 
 -- what the machine writes for an input, its end included, is what the plain definition says
 pub main-whole : (i : List ℕ) → written start i ++ lastLine (after start i) ≡ output i
 main-whole = whole
 
--- and so it is for an input in pieces, whatever the pieces
-pub main-pieces : (cs : List (List ℕ)) → inPieces start cs ≡ output (flatten cs)
-main-pieces cs = pieces-joined start cs ∙ whole (flatten cs)
-
--- with room for any line, at least one byte of a piece is taken
-pub main-taken : (room : ℕ) (s : Reading) (bs : List ℕ) → lineRoom ≤ room → 1 ≤ length bs → 1 ≤ taken room s bs
-main-taken = taken-some
+-- no line meets code 3: an answer a that meets the contract of the stem entry, lent 340 bytes, has another code, and is the line's
+pub main-answer : (w : List ℕ) (room : ℕ) (a : Answer) → a ≡ stemAnswer w room → (codeOf a ≡ 3 → room < stemRoom) → stemRoom ≤ room
+    → (codeOf a ≡ 3 → ⊥) × (answerLine w ≡ shown a (stemBytes w) ++ lineFeed ∷ [])
+main-answer = line-answered
 
 -- a line over 255 bytes is answered by `?1`
-pub main-overlong : (w : List ℕ) → 255 < length w → answerLine w ≡ questionMark ∷ (zeroDigit + 1) ∷ lineFeed ∷ []
+pub main-overlong : (w : List ℕ) → 255 < length w → answerLine w ≡ refusal 1 ++ lineFeed ∷ []
 main-overlong = line-long
 
 -- no stem holds `?`, so that a line with `?` is a refusal

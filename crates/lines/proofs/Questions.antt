@@ -15,11 +15,7 @@ use Rattle.definition.proofs.Match.{by}
 use Rattle.utf8.specs.Utf8.{encode1, encode}
 use Rattle.stemmer.specs.Entries.{letters, bytesOf, stemBytes}
 use Rattle.lines.specs.Plain.{questionMark}
-
--- no byte of the list is `?`
-abbrev pub Free : List ℕ → Type 0
-Free [] = Unit {0}
-Free (b ∷ bs) = (b ≡ questionMark → ⊥) × Free bs
+use Rattle.lines.specs.Facts.{Free}
 
 free-append : (a b : List ℕ) → Free a → Free b → Free (a ++ b)
 free-append [] b f g = g

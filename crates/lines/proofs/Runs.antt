@@ -1,25 +1,21 @@
--- Runs of bytes: in two pieces, in many, one byte longer; and how many bytes are taken. Assumes nothing.
+-- Runs of bytes: in two pieces, one byte longer; and how many bytes are taken. Assumes nothing.
 use mathlib.Core.Path.{_≡_, refl, sym, ap, _∙_}
-use mathlib.Core.Bool.{Bool, true, false}
-use mathlib.Core.List.{List, [], _∷_, _++_, append-assoc, append-nil, flatten}
+use mathlib.Core.List.{List, [], _∷_, _++_, append-assoc, append-nil}
 use Prim.Native.Nat.{ℕ, suc, _+_, _-_, _≤_, _<_}
 use native.Mathlib.Omega.{arith}
-use lib.Dec.{eqb}
 use lib.ListN.{length, take, drop}
 use lib.Seq.{take-add}
 use borrow.Author.Tests.{le-leb, lt-leb, eq-eqb, ne-eqb}
-use Rattle.definition.specs.Words.{pick}
-use Rattle.lines.specs.Plain.{lineFeed, answerLine}
-use Rattle.lines.specs.Machine.{Reading, lineRoom, step, said, after, written, lastLine, inPieces, taken}
-use Rattle.lines.proofs.Answering.{line-most}
+use Rattle.lines.specs.Plain.{answerLine}
+use Rattle.lines.specs.Machine.{Reading, lineRoom, step, said, after, written, lastLine, taken}
 use Rattle.lines.proofs.Lists.{rest-is}
 
-after-append : (s : Reading) (xs ys : List ℕ) → after s (xs ++ ys) ≡ after (after s xs) ys
+pub after-append : (s : Reading) (xs ys : List ℕ) → after s (xs ++ ys) ≡ after (after s xs) ys
 unfolding after
 after-append s [] ys = refl
 after-append s (x ∷ xs) ys = after-append (step s x) xs ys
 
-written-append : (s : Reading) (xs ys : List ℕ) → written s (xs ++ ys) ≡ written s xs ++ written (after s xs) ys
+pub written-append : (s : Reading) (xs ys : List ℕ) → written s (xs ++ ys) ≡ written s xs ++ written (after s xs) ys
 unfolding after written
 written-append s [] ys = refl
 written-append s (x ∷ xs) ys = rw (written-append (step s x) xs ys, append-assoc)
@@ -31,14 +27,6 @@ after-one s xs b = after-append s xs (b ∷ [])
 pub written-one : (s : Reading) (xs : List ℕ) (b : ℕ) → written s (xs ++ b ∷ []) ≡ written s xs ++ said (after s xs) b
 unfolding written
 written-one s xs b = written-append s xs (b ∷ []) ∙ ap (λ (t : List ℕ). written s xs ++ t) (append-nil (said (after s xs) b))
-
--- pieces are as good as the whole
-pub pieces-joined : (s : Reading) (cs : List (List ℕ)) → inPieces s cs ≡ written s (flatten cs) ++ lastLine (after s (flatten cs))
-unfolding inPieces flatten after written
-pieces-joined s [] = refl
-pieces-joined s (c ∷ cs) =
-    ap (λ (t : List ℕ). written s c ++ t) (pieces-joined (after s c) cs)
-    ∙ sym (rw (written-append s c (flatten cs), after-append s c (flatten cs), append-assoc))
 
 -- a further part of the input, as `&input[at..]` shows it
 pub after-part : (s : Reading) (input : List ℕ) (at used : ℕ)
@@ -64,15 +52,6 @@ pub taken-end : (room : ℕ) (s : Reading) (bs : List ℕ) → length bs ≡ 0 �
 unfolding taken
 taken-end room s [] h = refl
 taken-end room s (b ∷ bs) h = absurd (omega arith)
-
--- a byte makes the machine write a line at most
-pub said-most : (s : Reading) (b : ℕ) → length (said s b) ≤ lineRoom
-unfolding said
-said-most s b = of (eqb b lineFeed)
-  where
-    of : (t : Bool) → length (pick t (answerLine (s .1)) []) ≤ lineRoom
-    of true = line-most (s .1)
-    of false = omega arith
 
 -- the last line
 pub last-none : (s : Reading) → length (s .1) ≡ 0 → lastLine s ≡ []

@@ -5,11 +5,7 @@ use mathlib.Core.List.{List, [], _∷_, _++_}
 use Prim.Native.Nat.{ℕ}
 use lib.Dec.{eqb}
 use Rattle.lines.specs.Plain.{lineFeed, onto, linesOf}
-
--- no byte of the list is LF
-abbrev pub NoLf : List ℕ → Type 0
-NoLf [] = Unit {0}
-NoLf (x ∷ xs) = (eqb x lineFeed ≡ false) × NoLf xs
+use Rattle.lines.specs.Facts.{NoLf}
 
 pub no-lf-behind : (p : List ℕ) (b : ℕ) → NoLf p → eqb b lineFeed ≡ false → NoLf (p ++ b ∷ [])
 no-lf-behind [] b h e = (e, tt)

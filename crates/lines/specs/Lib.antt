@@ -1,3 +1,5 @@
 pub mod Plain
 pub mod Machine
+pub mod Calls
+pub mod Facts
 pub mod Examples

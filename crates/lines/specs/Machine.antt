@@ -13,6 +13,10 @@ use Rattle.lines.specs.declared.State.{State}
 abbrev pub keptBytes : ℕ
 keptBytes = 256
 
+-- the room that the stem entry is lent
+abbrev pub stemRoom : ℕ
+stemRoom = 340
+
 -- the most bytes that a line of the output has: the stem's room and LF
 abbrev pub lineRoom : ℕ
 lineRoom = 341
@@ -56,11 +60,6 @@ written s (b ∷ bs) = said s b ++ written (step s b) bs
 unfoldable pub lastLine : Reading → List ℕ
 lastLine s = pick (eqb (length (s .1)) 0) [] (answerLine (s .1))
 
--- all that is written for an input that comes in pieces
-unfoldable pub inPieces : Reading → List (List ℕ) → List ℕ
-inPieces s [] = lastLine s
-inPieces s (c ∷ cs) = written s c ++ inPieces (after s c) cs
-
 -- how many bytes of an input are taken into an output of that room: one more each time there is room for any line
 unfoldable pub taken : ℕ → Reading → List ℕ → ℕ
 taken room s [] = 0
@@ -71,6 +70,7 @@ pub record Turns (s s′ : Reading) (b : ℕ) (o o′ : List ℕ) (count : ℕ) 
   pub state : s′ ≡ step s b
   pub counts : count ≡ length (said s b)
   pub out : o′ ≡ said s b ++ drop count o
+  pub small : count ≤ lineRoom
 
 -- what a piece i of the input leaves, of which used bytes were taken: what they make the machine write stands in front of the output,
 -- and the rest of the output is unchanged. The last two fields follow from the others, and callers need them
@@ -81,3 +81,8 @@ pub record Feeds (i : List ℕ) (s s′ : Reading) (o o′ : List ℕ) (used cou
   pub out : o′ ≡ written s (take used i) ++ drop count o
   pub within : used ≤ length i
   pub fits : count ≤ length o′
+
+-- what the end of the input leaves: the last line, if there is one, stands in front of the output, and the rest of the output is unchanged
+pub record Ends (s : Reading) (o o′ : List ℕ) (count : ℕ) : Type 0 where
+  pub counts : count ≡ length (lastLine s)
+  pub out : o′ ≡ lastLine s ++ drop count o

@@ -1,11 +1,12 @@
 -- What the line program writes for an input: an opening mark is skipped, and each line of the rest is answered by a line.
+use mathlib.Core.Bool.{not}
 use mathlib.Core.List.{List, [], _∷_, _++_, flatMap}
 use Prim.Native.Nat.{ℕ, _+_}
-use lib.Dec.{eqb}
+use lib.Dec.{eqb, ltb}
 use lib.ListN.{length, drop}
 use Rattle.definition.specs.Words.{pick, beginsWith}
-use Rattle.stemmer.specs.declared.Answer.{Answer}
-use Rattle.stemmer.specs.Entries.{codeOf, stemBytes, stemAnswer}
+use Rattle.utf8.specs.Utf8.{wellFormed}
+use Rattle.stemmer.specs.Entries.{stemBytes}
 
 abbrev pub lineFeed : ℕ
 lineFeed = 0x0A
@@ -19,10 +20,6 @@ zeroDigit = 0x30
 -- the byte order mark
 abbrev pub mark : List ℕ
 mark = 0xEF ∷ 0xBB ∷ 0xBF ∷ []
-
--- the room that the stem entry is given
-abbrev pub stemRoom : ℕ
-stemRoom = 340
 
 -- an opening mark is skipped, once
 unfoldable pub skipMark : List ℕ → List ℕ
@@ -38,13 +35,13 @@ unfoldable pub linesOf : List ℕ → List (List ℕ)
 linesOf [] = []
 linesOf (b ∷ bs) = pick (eqb b lineFeed) ([] ∷ linesOf bs) (onto b (linesOf bs))
 
--- an answer in bytes: the stem where the code is 0, or `?` and the code in decimal
-unfoldable pub shown : Answer → List ℕ → List ℕ
-shown a stem = pick (eqb (codeOf a) 0) stem (questionMark ∷ (zeroDigit + codeOf a) ∷ [])
+-- `?` and a code in decimal
+abbrev pub refusal : ℕ → List ℕ
+refusal code = questionMark ∷ (zeroDigit + code) ∷ []
 
--- the line that answers a line
+-- the line that answers a line: `?1` where that has more than 255 bytes, `?2` where it is not well-formed UTF-8, and else its stem
 unfoldable pub answerLine : List ℕ → List ℕ
-answerLine w = shown (stemAnswer w stemRoom) (stemBytes w) ++ lineFeed ∷ []
+answerLine w = pick (ltb 255 (length w)) (refusal 1) (pick (not (wellFormed w)) (refusal 2) (stemBytes w)) ++ lineFeed ∷ []
 
 -- all that is written for an input
 unfoldable pub output : List ℕ → List ℕ

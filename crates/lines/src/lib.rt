@@ -4,7 +4,7 @@ ghost use mathlib.Core.List.{List, _∷_, _++_};
 ghost use Prim.Native.Nat.{ℕ, _≤_};
 ghost use lib.ListN.{length, take, drop};
 ghost use Rattle.lines.specs.Plain.{lineFeed, questionMark, answerLine};
-ghost use Rattle.lines.specs.Machine.{keptBytes, lineRoom, reading, start, putBehind, opened, lastLine, Turns, Feeds};
+ghost use Rattle.lines.specs.Machine.{keptBytes, lineRoom, reading, start, putBehind, opened, Turns, Feeds, Ends};
 
 // How many bytes of a line are kept, and so the least size of a line buffer.
 pub const KEPT_BYTES: usize = 256;
@@ -44,11 +44,12 @@ fn refuse(out: &mut [u8], digit: u8)
     out[2] = b'\n';
 }
 
-// The line that answers a word, in front of out.
+// The line that answers a word, in front of out. Lent 340 bytes, `stem` never answers that it has no room.
 fn emit(word: &[u8], out: &mut [u8]) -> usize
     requires { ⌜ lineRoom ≤ length (now out) ⌝ }
     ensures { λ r. ⌜ r ≡ length (answerLine (now (word .entry))) ⌝ }
     ensures { λ r. ⌜ now (out .exit) ≡ answerLine (now (word .entry)) ++ drop r (now (out .entry)) ⌝ }
+    ensures { λ r. ⌜ r ≤ lineRoom ⌝ }
 {
     let a = stemmer::stem(word, &mut out[..STEM_ROOM]);
     match a {
@@ -174,8 +175,7 @@ pub fn feed(input: &[u8], line: &mut [u8], state: State, out: &mut [u8]) -> Fed
 pub fn finish(line: &[u8], state: State, out: &mut [u8]) -> usize
     requires { ⌜ state .len ≤ length (now line) ⌝ }
     requires { ⌜ lineRoom ≤ length (now out) ⌝ }
-    ensures { λ r. ⌜ r ≡ length (lastLine (reading state (now (line .entry)))) ⌝ }
-    ensures { λ r. ⌜ now (out .exit) ≡ lastLine (reading state (now (line .entry))) ++ drop r (now (out .entry)) ⌝ }
+    ensures { λ r. ⌜ Ends (reading state (now (line .entry))) (now (out .entry)) (now (out .exit)) r ⌝ }
 {
     let len = state.len;
     if len == 0 {

@@ -1,4 +1,4 @@
--- `stem_lines::end` meets its contract: what `finish` wrote lies within the output. Assumes what the toolchain declares of `write`.
+-- `stem_lines::end` meets its contract: what `finish` wrote lies within the output. Assumes what the toolchain declares of `write`, `sched_yield` and errno.
 use mathlib.Core.Path.{ap, sym}
 use native.Mathlib.Omega.{arith}
 use lib.ListN.{length, length-append}
@@ -13,12 +13,12 @@ finish-requires c κs = search needs
 slice-reshare-prefix-write-all : tie.Need-slice-reshare-prefix-write-all
 slice-reshare-prefix-write-all c =
     let x = c .before .before .finish in
-    omega (arith, x .ensures .0, simp length-append at (ap length (x .ensures .1)))
+    omega (arith, x .ensures .counts, simp length-append at (ap length (x .ensures .out)))
 
 slice-aggregate-write-all : tie.Need-slice-aggregate-write-all
 slice-aggregate-write-all c =
     let x = c .before .before .before .finish in
-    sym (length-take-le (x .result) (x .last .1 .1 .0) (omega (arith, x .ensures .0, simp length-append at (ap length (x .ensures .1)))))
+    sym (length-take-le (x .result) (x .last .1 .1 .0) (omega (arith, x .ensures .counts, simp length-append at (ap length (x .ensures .out)))))
 
 write-all-requires : tie.Need-write-all-requires
 write-all-requires c κs = search needs
