@@ -1,6 +1,6 @@
 -- The line that answers a word, by the word's answer; an overlong word is answered by its first 256 bytes. Assumes nothing.
 use mathlib.Core.Path.{_≡_, refl, sym, ap, _∙_}
-use mathlib.Core.Bool.{Bool, true, false, not}
+use mathlib.Core.Bool.{Bool, true, false}
 use mathlib.Core.List.{List, [], _∷_, _++_}
 use Prim.Native.Nat.{ℕ, _<_, _≤_}
 use native.Mathlib.Omega.{arith}
@@ -10,30 +10,30 @@ use lib.Seq.{take-all, length-take-le}
 use borrow.Author.Tests.{ne-eqb}
 use Rattle.definition.specs.Words.{pick}
 use Rattle.definition.proofs.Match.{by-le}
-use Rattle.utf8.specs.Utf8.{wellFormed}
 use Rattle.stemmer.specs.declared.Answer.{Answer}
 use Rattle.stemmer.specs.declared.Answer.the-variants.{Done, TooLong, NotWellFormed, NoRoom}
-use Rattle.stemmer.specs.Entries.{codeOf, fitting, answer, stemBytes, stemAnswer, outAfter}
+use Rattle.stemmer.specs.declared.Checked.{Checked}
+use Rattle.stemmer.specs.declared.Checked.the-variants.{Overlong, Malformed, Accepted}
+use Rattle.stemmer.specs.Entries.{codeOf, checked, afterChecks, fitting, answer, stemBytes, stemAnswer, outAfter}
 use Rattle.stemmer.proofs.Answers.{over-long}
-use Rattle.lines.specs.Plain.{lineFeed, refusal, answerLine}
+use Rattle.lines.specs.Plain.{lineFeed, refusal, textAfter, answerLine}
 use Rattle.lines.specs.Machine.{keptBytes, stemRoom}
 use Rattle.lines.specs.Facts.{shown}
 
 -- the checks as an answer, and the two of them that a line knows
-shown-by : (b c d : Bool) (m : ℕ) (bs : List ℕ) → (codeOf (pick b TooLong (pick c NotWellFormed (pick d NoRoom (Done m)))) ≡ 3 → ⊥)
-    → pick b (refusal 1) (pick c (refusal 2) bs) ≡ shown (pick b TooLong (pick c NotWellFormed (pick d NoRoom (Done m)))) bs
+shown-by : (k : Checked) (d : Bool) (m : ℕ) (bs : List ℕ) → (codeOf (afterChecks k (pick d NoRoom (Done m))) ≡ 3 → ⊥)
+    → textAfter k bs ≡ shown (afterChecks k (pick d NoRoom (Done m))) bs
 unfolding shown
-shown-by true c d m bs n = refl
-shown-by false true d m bs n = refl
-shown-by false false true m bs n = absurd (n refl)
-shown-by false false false m bs n = refl
+shown-by Overlong d m bs n = refl
+shown-by Malformed d m bs n = refl
+shown-by Accepted true m bs n = absurd (n refl)
+shown-by Accepted false m bs n = refl
 
 -- an answer with another code than 3 is the line's
 pub line-shown : (w : List ℕ) (room : ℕ) → (codeOf (stemAnswer w room) ≡ 3 → ⊥) → answerLine w ≡ shown (stemAnswer w room) (stemBytes w) ++ lineFeed ∷ []
 unfolding answerLine answer fitting
 line-shown w room n =
-    ap (λ (t : List ℕ). t ++ lineFeed ∷ [])
-    (shown-by (ltb 255 (length w)) (not (wellFormed w)) (ltb room (length (stemBytes w))) (length (stemBytes w)) (stemBytes w) n)
+    ap (λ (t : List ℕ). t ++ lineFeed ∷ []) (shown-by (checked w) (ltb room (length (stemBytes w))) (length (stemBytes w)) (stemBytes w) n)
 
 -- the same of any answer a that the contract of the stem entry allows, where it has room for every stem
 pub line-answered : (w : List ℕ) (room : ℕ) (a : Answer) → a ≡ stemAnswer w room → (codeOf a ≡ 3 → room < stemRoom) → stemRoom ≤ room

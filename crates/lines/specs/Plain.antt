@@ -1,12 +1,12 @@
 -- What the line program writes for an input: an opening mark is skipped, and each line of the rest is answered by a line.
-use mathlib.Core.Bool.{not}
 use mathlib.Core.List.{List, [], _∷_, _++_, flatMap}
 use Prim.Native.Nat.{ℕ, _+_}
-use lib.Dec.{eqb, ltb}
+use lib.Dec.{eqb}
 use lib.ListN.{length, drop}
 use Rattle.definition.specs.Words.{pick, beginsWith}
-use Rattle.utf8.specs.Utf8.{wellFormed}
-use Rattle.stemmer.specs.Entries.{stemBytes}
+use Rattle.stemmer.specs.declared.Checked.{Checked}
+use Rattle.stemmer.specs.declared.Checked.the-variants.{Overlong, Malformed, Accepted}
+use Rattle.stemmer.specs.Entries.{checked, stemBytes}
 
 abbrev pub lineFeed : ℕ
 lineFeed = 0x0A
@@ -39,9 +39,15 @@ linesOf (b ∷ bs) = pick (eqb b lineFeed) ([] ∷ linesOf bs) (onto b (linesOf 
 abbrev pub refusal : ℕ → List ℕ
 refusal code = questionMark ∷ (zeroDigit + code) ∷ []
 
--- the line that answers a line: `?1` where that has more than 255 bytes, `?2` where it is not well-formed UTF-8, and else its stem
+-- what answers a line after document 01's first two checks: `?1` where it has more than 255 bytes, `?2` where it is not well-formed UTF-8, and else its stem
+abbrev pub textAfter : Checked → List ℕ → List ℕ
+textAfter Overlong stem = refusal 1
+textAfter Malformed stem = refusal 2
+textAfter Accepted stem = stem
+
+-- the line that answers a line
 unfoldable pub answerLine : List ℕ → List ℕ
-answerLine w = pick (ltb 255 (length w)) (refusal 1) (pick (not (wellFormed w)) (refusal 2) (stemBytes w)) ++ lineFeed ∷ []
+answerLine w = textAfter (checked w) (stemBytes w) ++ lineFeed ∷ []
 
 -- all that is written for an input
 unfoldable pub output : List ℕ → List ℕ

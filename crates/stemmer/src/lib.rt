@@ -26,7 +26,7 @@ pub enum Answer {
 }
 
 // What the first two checks say of a word.
-enum Checked {
+pub enum Checked {
     Overlong,
     Malformed,
     Accepted,
