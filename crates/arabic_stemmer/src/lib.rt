@@ -1,3 +1,4 @@
+// The entries under the names that C links; include/arabic_stemmer.h declares them. A slice is a pointer and a length.
 ghost use mathlib.Core.Path.{_≡_};
 ghost use Prim.Native.Nat.{_<_};
 ghost use lib.ListN.{length};
@@ -6,8 +7,6 @@ ghost use Rattle.definition.specs.Finish.{finish};
 ghost use Rattle.definition.specs.Stem.{stem};
 ghost use Rattle.stemmer.specs.Entries.{enoughRoom, bytesOf, fitting, answer, outAfter, kindAnswer, Demand3After, version};
 ghost use Rattle.arabic_stemmer.specs.Interface.{told, number, toldKind};
-
-// The entries under the names that C links; include/arabic_stemmer.h declares them. A slice is a pointer and a length.
 
 // Code 0 and the number of bytes written, or a refusal's code and 0.
 #[repr(C)]

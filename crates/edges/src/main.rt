@@ -2,6 +2,7 @@
 // it, in hexadecimal. Before the call the byte at i is i % 251.
 use libc::STDOUT_FILENO;
 use stemmer::Answer;
+use stemmer::LONGEST;
 use stemmer::ROOM;
 ghost use mathlib.Core.Path.{_≡_};
 ghost use Prim.Native.Nat.{_<_, _≤_};
@@ -123,8 +124,8 @@ fn kind(name: &[u8], word: &[u8]) {
 }
 
 // 85 times U+FEFB.
-fn ligatures() -> [u8; 255] {
-    let mut word = [0xBBu8; 255];
+fn ligatures() -> [u8; LONGEST] {
+    let mut word = [0xBBu8; LONGEST];
     let mut i = 0;
     while i < 85 {
         word[3 * i] = 0xEF;
@@ -135,12 +136,12 @@ fn ligatures() -> [u8; 255] {
 
 // Words over 255 bytes.
 fn too_long() {
-    let latin = [b'a'; 256];
-    stem(b"stem, 255 bytes of a: ", &latin[..255], 255);
+    let latin = [b'a'; LONGEST + 1];
+    stem(b"stem, 255 bytes of a: ", &latin[..LONGEST], LONGEST);
     stem(b"stem, 256 bytes of a: ", &latin, 8);
     normalise(b"normalise, 256 bytes of a: ", &latin, 8);
     finish(b"finish, 256 bytes of a: ", &latin, 8);
-    kind(b"kind, 255 bytes of a: ", &latin[..255]);
+    kind(b"kind, 255 bytes of a: ", &latin[..LONGEST]);
     kind(b"kind, 256 bytes of a: ", &latin);
     stem_part(b"part, 256 bytes of a: ", &latin, 8);
 }
@@ -148,8 +149,12 @@ fn too_long() {
 // Words that grow.
 fn growing() {
     let word = ligatures();
-    normalise(b"normalise, 85 times FEFB: ", &word, 340);
-    normalise(b"normalise, 85 times FEFB, one byte short: ", &word, 339);
+    normalise(b"normalise, 85 times FEFB: ", &word, ROOM);
+    normalise(
+        b"normalise, 85 times FEFB, one byte short: ",
+        &word,
+        ROOM - 1,
+    );
 }
 
 // Bytes that are not well formed.
@@ -186,7 +191,7 @@ fn parts(word: &[u8]) {
 
 // An empty part, and an output that is as it was.
 fn refused_parts() {
-    let latin = [b'a'; 256];
+    let latin = [b'a'; LONGEST + 1];
     stem_part(b"part, 256 bytes of a, room for 340: ", &latin, ROOM);
     stem_part(b"part, 256 bytes of a, room for 396: ", &latin, LARGEST);
     stem_part(b"part, C0 80, room for 340: ", b"\xC0\x80", ROOM);

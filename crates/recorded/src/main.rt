@@ -3,10 +3,13 @@
 use libc::STDIN_FILENO;
 use libc::STDOUT_FILENO;
 use stemmer::Answer;
+use stemmer::ROOM;
 ghost use mathlib.Core.Path.{_≡_};
 ghost use Prim.Native.Nat.{_≤_};
 ghost use lib.ListN.{length};
+ghost use Rattle.recorded.specs.Sizes.{lineBytes};
 
+// The bytes of a line that are kept: more than a word may have.
 const LINE: usize = 512;
 
 fn write(text: &[u8]) {
@@ -60,8 +63,8 @@ fn answer(word: &[u8], out: &mut [u8]) {
 
 // Takes one byte of the input, and answers how many bytes the line then has. LF answers the line.
 fn take_byte(b: u8, line: &mut [u8], len: usize, out: &mut [u8]) -> usize
-    requires { ⌜ (length (now line) ≡ 512) × (len ≤ 512) ⌝ }
-    ensures { λ r. ⌜ r ≤ 512 ⌝ }
+    requires { ⌜ (length (now line) ≡ lineBytes) × (len ≤ lineBytes) ⌝ }
+    ensures { λ r. ⌜ r ≤ lineBytes ⌝ }
 {
     if b == b'\n' {
         answer(&line[..len], out);
@@ -91,7 +94,7 @@ fn next_byte() -> Next {
 
 // A proved loop has to end, and nothing says that the input does: the reads are counted down from a number that no run uses up.
 fn run(line: &mut [u8], out: &mut [u8])
-    requires { ⌜ length (now line) ≡ 512 ⌝ }
+    requires { ⌜ length (now line) ≡ lineBytes ⌝ }
 {
     let mut len = 0;
     let mut reads = u64::MAX;
@@ -107,6 +110,6 @@ fn run(line: &mut [u8], out: &mut [u8])
 
 fn main() {
     let mut line = [0u8; LINE];
-    let mut out = [0u8; 340];
+    let mut out = [0u8; ROOM];
     run(&mut line, &mut out);
 }

@@ -3,11 +3,12 @@ use mathlib.Core.Path.{_≡_}
 use Prim.Native.Nat.{_≤_}
 use lib.ListN.{length}
 use borrow.Author.Needs.{needs}
+use Rattle.recorded.specs.Sizes.{lineBytes}
 use Rattle.recorded.proofs.run.Statement.{statement}
 use Rattle.recorded.proofs.run.Tie as tie
 
 abbrev Inv-loop : tie.InvT-loop
-Inv-loop line₀ out₀ len₀ reads₀ line out len reads = (length line ≡ 512) × ((len ≤ 512) × (length out ≡ length out₀))
+Inv-loop line₀ out₀ len₀ reads₀ line out len reads = (length line ≡ lineBytes) × ((len ≤ lineBytes) × (length out ≡ length out₀))
 
 abbrev μ-loop : tie.MeasureT-loop
 μ-loop line₀ out₀ len₀ reads₀ line out len reads = reads
