@@ -1,7 +1,6 @@
 -- `arabic_stemmer_stem` meets its contract: what `stemmer::stem` promises, with its answer as numbers. Assumes nothing.
 use mathlib.Core.Path.{sym, ap, _∙_, subst}
 use borrow.Author.Needs.{needs}
-use Rattle.definition.specs.Stem.{stem}
 use Rattle.stemmer.specs.declared.Answer.{Answer}
 use Rattle.stemmer.specs.Entries.{Demand3After}
 use Rattle.arabic_stemmer.specs.declared.Answer.{Answer as Told}
