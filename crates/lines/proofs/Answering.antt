@@ -5,7 +5,7 @@ use mathlib.Core.List.{List, [], _∷_, _++_}
 use Prim.Native.Nat.{ℕ, _<_, _≤_}
 use native.Mathlib.Omega.{arith}
 use lib.Dec.{eqb, ltb}
-use lib.ListN.{length, take, length-take}
+use lib.ListN.{length, take, length-append, length-take}
 use lib.Seq.{take-all, length-take-le}
 use borrow.Author.Tests.{ne-eqb}
 use Rattle.definition.specs.Words.{pick}
@@ -15,10 +15,11 @@ use Rattle.stemmer.specs.declared.Answer.the-variants.{Done, TooLong, NotWellFo
 use Rattle.stemmer.specs.declared.Checked.{Checked}
 use Rattle.stemmer.specs.declared.Checked.the-variants.{Overlong, Malformed, Accepted}
 use Rattle.stemmer.specs.Entries.{codeOf, checked, afterChecks, fitting, answer, stemBytes, stemAnswer, outAfter}
-use Rattle.stemmer.proofs.Answers.{over-long}
+use Rattle.stemmer.proofs.Answers.{done-count, done-fits, over-long}
 use Rattle.lines.specs.Plain.{lineFeed, refusal, textAfter, answerLine}
-use Rattle.lines.specs.Machine.{keptBytes, stemRoom}
+use Rattle.lines.specs.Machine.{keptBytes, stemRoom, lineRoom}
 use Rattle.lines.specs.Facts.{shown}
+use Rattle.lines.proofs.Room.{never-three}
 
 -- the checks as an answer, and the two of them that a line knows
 shown-by : (k : Checked) (d : Bool) (m : ℕ) (bs : List ℕ) → (codeOf (afterChecks k (pick d NoRoom (Done m))) ≡ 3 → ⊥)
@@ -29,29 +30,23 @@ shown-by Malformed d m bs n = refl
 shown-by Accepted true m bs n = absurd (n refl)
 shown-by Accepted false m bs n = refl
 
--- an answer with another code than 3 is the line's
-pub line-shown : (w : List ℕ) (room : ℕ) → (codeOf (stemAnswer w room) ≡ 3 → ⊥) → answerLine w ≡ shown (stemAnswer w room) (stemBytes w) ++ lineFeed ∷ []
+-- an answer of the stem entry with room for every stem is the line's
+pub line-answer : (w : List ℕ) → answerLine w ≡ shown (stemAnswer w stemRoom) (stemBytes w) ++ lineFeed ∷ []
 unfolding answerLine answer fitting
-line-shown w room n =
-    ap (λ (t : List ℕ). t ++ lineFeed ∷ []) (shown-by (checked w) (ltb room (length (stemBytes w))) (length (stemBytes w)) (stemBytes w) n)
-
--- the same of any answer a that the contract of the stem entry allows, where it has room for every stem
-pub line-answered : (w : List ℕ) (room : ℕ) (a : Answer) → a ≡ stemAnswer w room → (codeOf a ≡ 3 → room < stemRoom) → stemRoom ≤ room
-    → (codeOf a ≡ 3 → ⊥) × (answerLine w ≡ shown a (stemBytes w) ++ lineFeed ∷ [])
-line-answered w room a e f h =
-    let n : codeOf a ≡ 3 → ⊥ = λ z. omega (arith, f z) in
-    (n, line-shown w room (λ z. n (ap codeOf e ∙ z)) ∙ ap (λ (x : Answer). shown x (stemBytes w) ++ lineFeed ∷ []) (sym e))
+line-answer w =
+    ap (λ (t : List ℕ). t ++ lineFeed ∷ [])
+    (shown-by (checked w) (ltb stemRoom (length (stemBytes w))) (length (stemBytes w)) (stemBytes w) (never-three w))
 
 pub line-done : (w : List ℕ) (n : ℕ) → stemAnswer w stemRoom ≡ Done n → answerLine w ≡ stemBytes w ++ lineFeed ∷ []
 unfolding shown
-line-done w n e = line-shown w stemRoom (λ z. let q : _≡_ {A = ℕ} 0 3 = ap codeOf (sym e) ∙ z in omega arith) ∙ rw e
+line-done w n e = line-answer w ∙ rw e
 
-pub line-refused : (w : List ℕ) (a : Answer) → stemAnswer w stemRoom ≡ a → 1 ≤ codeOf a → codeOf a < 3 → answerLine w ≡ refusal (codeOf a) ++ lineFeed ∷ []
+pub line-refused : (w : List ℕ) (a : Answer) → stemAnswer w stemRoom ≡ a → 1 ≤ codeOf a → answerLine w ≡ refusal (codeOf a) ++ lineFeed ∷ []
 unfolding shown
-line-refused w (Done n) e h k = absurd (omega arith)
-line-refused w TooLong e h k = line-shown w stemRoom (λ z. let q : _≡_ {A = ℕ} 1 3 = ap codeOf (sym e) ∙ z in omega arith) ∙ rw e
-line-refused w NotWellFormed e h k = line-shown w stemRoom (λ z. let q : _≡_ {A = ℕ} 2 3 = ap codeOf (sym e) ∙ z in omega arith) ∙ rw e
-line-refused w NoRoom e h k = absurd (omega arith)
+line-refused w (Done n) e h = absurd (omega arith)
+line-refused w TooLong e h = line-answer w ∙ rw e
+line-refused w NotWellFormed e h = line-answer w ∙ rw e
+line-refused w NoRoom e h = line-answer w ∙ rw e
 
 -- a refusal leaves the output as it was
 pub out-refused : (a : Answer) (bs old : List ℕ) → 1 ≤ codeOf a → outAfter a bs old ≡ old
@@ -61,9 +56,18 @@ out-refused TooLong bs old h = refl
 out-refused NotWellFormed bs old h = refl
 out-refused NoRoom bs old h = refl
 
+pub line-most : (w : List ℕ) → length (answerLine w) ≤ lineRoom
+line-most w = of (stemAnswer w stemRoom) refl
+  where
+    of : (a : Answer) → stemAnswer w stemRoom ≡ a → length (answerLine w) ≤ lineRoom
+    of (Done n) e = rw (line-done w n e, length-append) (omega (arith, done-fits w stemRoom n e, done-count w stemRoom n e))
+    of TooLong e = rw (line-refused w TooLong e (omega arith)) (omega arith)
+    of NotWellFormed e = rw (line-refused w NotWellFormed e (omega arith)) (omega arith)
+    of NoRoom e = rw (line-refused w NoRoom e (omega arith)) (omega arith)
+
 -- an overlong line is answered by `?1`
 pub line-long : (w : List ℕ) → 255 < length w → answerLine w ≡ refusal 1 ++ lineFeed ∷ []
-line-long w h = line-refused w TooLong (over-long w stemRoom h) (omega arith) (omega arith)
+line-long w h = line-refused w TooLong (over-long w stemRoom h) (omega arith)
 
 -- so the bytes that are kept of a line have its answer
 pub line-kept : (w : List ℕ) → answerLine (take keptBytes w) ≡ answerLine w

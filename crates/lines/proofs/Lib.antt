@@ -1,6 +1,7 @@
 pub mod Main
 pub mod Examples
 pub mod Lists
+pub mod Room
 pub mod Answering
 pub mod Runs
 pub mod Opening

@@ -9,19 +9,23 @@ use Rattle.lines.specs.Machine.{Reading, stemRoom, lineRoom, start, read
 use Rattle.lines.specs.Calls.{Calls}
 use Rattle.lines.specs.Facts.{NoLf, Free, shown}
 use Rattle.lines.specs.Examples.{examples}
-use Rattle.stemmer.specs.declared.Answer.{Answer}
 use Rattle.stemmer.specs.Entries.{codeOf, stemBytes, stemAnswer}
 use Rattle.lines.proofs.Questions.{no-question}
-use Rattle.lines.proofs.Answering.{line-long, line-answered}
+use Rattle.lines.proofs.Room.{never-three}
+use Rattle.lines.proofs.Answering.{line-answer, line-long}
 use Rattle.lines.proofs.Examples.{examples-right}
 use Rattle.lines.proofs.Splitting.{line-first, line-last}
-use Rattle.lines.proofs.Calling.{calls-output, feeds-some}
+use Rattle.lines.proofs.Calling.{calls-output, calls-are, feeds-some}
 use Rattle.lines.proofs.Whole.{whole}
 
 -- what calls of `feed` and `finish` write for an input in pieces, whatever the pieces and the outputs that they are lent, is what the plain
 -- definition says of the pieces joined; `State::start` gives such a state
 pub main-calls : {s : State} {line : List ℕ} {pieces : List (List ℕ)} {w : List ℕ} → reading s line ≡ start → Calls s line pieces w → w ≡ output (flatten pieces)
 main-calls = calls-output
+
+-- there are such calls for every list of pieces
+pub main-some : (s : State) (line : List ℕ) (pieces : List (List ℕ)) → (w : List ℕ) × Calls s line pieces w
+main-some = calls-are
 
 -- and a call with room for any line takes at least a byte, so that each piece is taken whole by as many calls
 pub main-taken : {i : List ℕ} {s s′ : Reading} {o o′ : List ℕ} {used count : ℕ} → Feeds i s s′ o o′ used count → lineRoom ≤ length o → 1 ≤ length i → 1 ≤ used
@@ -31,10 +35,13 @@ main-taken = feeds-some
 pub main-whole : (i : List ℕ) → written start i ++ lastLine (after start i) ≡ output i
 main-whole = whole
 
--- no line meets code 3: an answer a that meets the contract of the stem entry, lent 340 bytes, has another code, and is the line's
-pub main-answer : (w : List ℕ) (room : ℕ) (a : Answer) → a ≡ stemAnswer w room → (codeOf a ≡ 3 → room < stemRoom) → stemRoom ≤ room
-    → (codeOf a ≡ 3 → ⊥) × (answerLine w ≡ shown a (stemBytes w) ++ lineFeed ∷ [])
-main-answer = line-answered
+-- no line meets code 3: lent 340 bytes, the stem entry never answers it
+pub main-three : (w : List ℕ) → codeOf (stemAnswer w stemRoom) ≡ 3 → ⊥
+main-three = never-three
+
+-- and what it answers then, shown in bytes, is the line
+pub main-answer : (w : List ℕ) → answerLine w ≡ shown (stemAnswer w stemRoom) (stemBytes w) ++ lineFeed ∷ []
+main-answer = line-answer
 
 -- a line over 255 bytes is answered by `?1`
 pub main-overlong : (w : List ℕ) → 255 < length w → answerLine w ≡ refusal 1 ++ lineFeed ∷ []

@@ -1,13 +1,18 @@
 -- Runs of bytes: in two pieces, one byte longer; and how many bytes are taken. Assumes nothing.
 use mathlib.Core.Path.{_≡_, refl, sym, ap, _∙_}
+use mathlib.Core.Bool.{Bool, true, false}
 use mathlib.Core.List.{List, [], _∷_, _++_, append-assoc, append-nil}
 use Prim.Native.Nat.{ℕ, suc, _+_, _-_, _≤_, _<_}
 use native.Mathlib.Omega.{arith}
+use lib.Dec.{eqb}
 use lib.ListN.{length, take, drop}
 use lib.Seq.{take-add}
 use borrow.Author.Tests.{le-leb, lt-leb, eq-eqb, ne-eqb}
-use Rattle.lines.specs.Plain.{answerLine}
+use Rattle.definition.specs.Words.{pick}
+use Rattle.definition.proofs.Match.{by-le}
+use Rattle.lines.specs.Plain.{lineFeed, answerLine}
 use Rattle.lines.specs.Machine.{Reading, lineRoom, step, said, after, written, lastLine, taken}
+use Rattle.lines.proofs.Answering.{line-most}
 use Rattle.lines.proofs.Lists.{rest-is}
 
 pub after-append : (s : Reading) (xs ys : List ℕ) → after s (xs ++ ys) ≡ after (after s xs) ys
@@ -52,6 +57,21 @@ pub taken-end : (room : ℕ) (s : Reading) (bs : List ℕ) → length bs ≡ 0 �
 unfolding taken
 taken-end room s [] h = refl
 taken-end room s (b ∷ bs) h = absurd (omega arith)
+
+pub taken-within : (room : ℕ) (s : Reading) (bs : List ℕ) → taken room s bs ≤ length bs
+taken-within room s [] = omega (arith, taken-end room s [] refl)
+taken-within room s (b ∷ bs) = by-le lineRoom room
+    (λ h. omega (arith, taken-more room s b bs h, taken-within (room - length (said s b)) (step s b) bs))
+    (λ h. omega (arith, taken-none room s (b ∷ bs) h))
+
+-- a byte makes the machine write a line at most
+pub said-most : (s : Reading) (b : ℕ) → length (said s b) ≤ lineRoom
+unfolding said
+said-most s b = of (eqb b lineFeed)
+  where
+    of : (t : Bool) → length (pick t (answerLine (s .1)) []) ≤ lineRoom
+    of true = line-most (s .1)
+    of false = omega arith
 
 -- the last line
 pub last-none : (s : Reading) → length (s .1) ≡ 0 → lastLine s ≡ []

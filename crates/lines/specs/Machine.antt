@@ -70,7 +70,6 @@ pub record Turns (s s′ : Reading) (b : ℕ) (o o′ : List ℕ) (count : ℕ) 
   pub state : s′ ≡ step s b
   pub counts : count ≡ length (said s b)
   pub out : o′ ≡ said s b ++ drop count o
-  pub small : count ≤ lineRoom
 
 -- what a piece i of the input leaves, of which used bytes were taken: what they make the machine write stands in front of the output,
 -- and the rest of the output is unchanged. The last two fields follow from the others, and callers need them

@@ -49,7 +49,6 @@ fn emit(word: &[u8], out: &mut [u8]) -> usize
     requires { ⌜ lineRoom ≤ length (now out) ⌝ }
     ensures { λ r. ⌜ r ≡ length (answerLine (now (word .entry))) ⌝ }
     ensures { λ r. ⌜ now (out .exit) ≡ answerLine (now (word .entry)) ++ drop r (now (out .entry)) ⌝ }
-    ensures { λ r. ⌜ r ≤ lineRoom ⌝ }
 {
     let a = stemmer::stem(word, &mut out[..STEM_ROOM]);
     match a {

@@ -1,7 +1,7 @@
 -- `lines::emit` meets its contract: each arm knows which answer `stem` gave, and what that answer leaves in the output; code 3 is not met. Assumes nothing.
 use mathlib.Core.Path.{_≡_, sym, ap, _∙_}
 use mathlib.Core.List.{List, [], _∷_, _++_, append-assoc}
-use Prim.Native.Nat.{ℕ, _+_, _<_, _≤_}
+use Prim.Native.Nat.{ℕ, _+_, _≤_}
 use native.Mathlib.Omega.{arith}
 use lib.ListN.{length, take, drop, set, length-append, take-append-drop}
 use lib.Seq.{length-take-le, length-front}
@@ -28,7 +28,7 @@ done-small w o n h e = omega (arith, done-fits w (length (take stemRoom o)) n e,
 module _ (w o part : List ℕ) (h : lineRoom ≤ length o)
     (e : part ≡ outAfter (stemAnswer w (length (take stemRoom o))) (stemBytes w) (take stemRoom o)) where
   when-done : (n : ℕ) → stemAnswer w (length (take stemRoom o)) ≡ Done n
-      → (n + 1 ≡ length (answerLine w)) × ((set (part ++ drop stemRoom o) n lineFeed ≡ answerLine w ++ drop (n + 1) o) × (n + 1 ≤ lineRoom))
+      → (n + 1 ≡ length (answerLine w)) × (set (part ++ drop stemRoom o) n lineFeed ≡ answerLine w ++ drop (n + 1) o)
   unfolding outAfter
   when-done n q =
       let a : stemAnswer w stemRoom ≡ Done n = ap (stemAnswer w) (sym (lent o h)) ∙ q in
@@ -36,12 +36,12 @@ module _ (w o part : List ℕ) (h : lineRoom ≤ length o)
       let m : n ≤ stemRoom = done-fits w stemRoom n a in
       let l : part ≡ stemBytes w ++ drop n (take stemRoom o) = rw q at e in
       let f : part ++ drop stemRoom o ≡ stemBytes w ++ drop n o = rw (l, append-assoc, rejoin n stemRoom o m (omega arith)) in
-      (rw (line-done w n a, length-append) (omega arith), (rw (f, line-done w n a) (ended (stemBytes w) o n lineFeed k (omega arith)), omega arith))
+      (rw (line-done w n a, length-append) (omega arith), rw (f, line-done w n a) (ended (stemBytes w) o n lineFeed k (omega arith)))
 
-  when-refused : (a : Answer) → stemAnswer w (length (take stemRoom o)) ≡ a → 1 ≤ codeOf a → codeOf a < 3
+  when-refused : (a : Answer) → stemAnswer w (length (take stemRoom o)) ≡ a → 1 ≤ codeOf a
       → (3 ≡ length (answerLine w)) × (refusal (codeOf a) ++ lineFeed ∷ drop 3 (part ++ drop stemRoom o) ≡ answerLine w ++ drop 3 o)
-  when-refused a q k m =
-      let f : answerLine w ≡ refusal (codeOf a) ++ lineFeed ∷ [] = line-refused w a (ap (stemAnswer w) (sym (lent o h)) ∙ q) k m in
+  when-refused a q k =
+      let f : answerLine w ≡ refusal (codeOf a) ++ lineFeed ∷ [] = line-refused w a (ap (stemAnswer w) (sym (lent o h)) ∙ q) k in
       let l : part ≡ take stemRoom o = rw q at e ∙ out-refused a (stemBytes w) (take stemRoom o) k in
       let g : part ++ drop stemRoom o ≡ o = ap (λ (t : List ℕ). t ++ drop stemRoom o) l ∙ take-append-drop stemRoom o in
       (rw f, rw (g, f))
@@ -97,8 +97,8 @@ returns-2 c =
     let p = c .before .before .before .before .before .before .before .before .before .before .before .before in
     let s = c .before .before .before .before .before .before .before .before .stem in
     let d = when-refused (p .args .word .now) (p .args .out .now) (s .last .1 .0) (p .pre) (s .ensures .1 .0) TooLong
-    (sym (s .ensures .0) ∙ c .before .before .before .before .enum-told .given .1) (omega arith) (omega arith) in
-    (d .0, (c .before .before .refuse .ensures ∙ d .1, omega arith))
+    (sym (s .ensures .0) ∙ c .before .before .before .before .enum-told .given .1) (omega arith) in
+    (d .0, c .before .before .refuse .ensures ∙ d .1)
 
 enum-told-2 : tie.Need-enum-told-2
 enum-told-2 c = search needs
@@ -114,8 +114,8 @@ returns-3 c =
     let p = c .before .before .before .before .before .before .before .before .before .before .before .before in
     let s = c .before .before .before .before .before .before .before .before .stem in
     let d = when-refused (p .args .word .now) (p .args .out .now) (s .last .1 .0) (p .pre) (s .ensures .1 .0) NotWellFormed
-    (sym (s .ensures .0) ∙ c .before .before .before .before .enum-told2 .given .1) (omega arith) (omega arith) in
-    (d .0, (c .before .before .refuse2 .ensures ∙ d .1, omega arith))
+    (sym (s .ensures .0) ∙ c .before .before .before .before .enum-told2 .given .1) (omega arith) in
+    (d .0, c .before .before .refuse2 .ensures ∙ d .1)
 
 enum-told-3 : tie.Need-enum-told-3
 enum-told-3 c = search needs

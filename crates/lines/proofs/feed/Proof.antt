@@ -10,7 +10,7 @@ use borrow.Author.Needs.{needs}
 use borrow.Rule.Slice.PartMut.{putMid}
 use Rattle.lines.specs.Machine.{Reading, keptBytes, lineRoom, reading, step, said, after, written, taken, Turns, Feeds}
 use Rattle.lines.proofs.Lists.{rest-is, rest-length, back-is}
-use Rattle.lines.proofs.Runs.{after-one, written-one, taken-more, taken-none, taken-end}
+use Rattle.lines.proofs.Runs.{after-one, written-one, said-most, taken-more, taken-none, taken-end}
 use Rattle.lines.proofs.feed.Statement.{statement}
 use Rattle.lines.proofs.feed.Tie as tie
 
@@ -59,7 +59,7 @@ next {input} {s₀} {s} {s′} {out₀} {out} {part} {at} {i} {count} p h k l t 
     record {
       within = omega arith;
       kept = same;
-      fits = omega (arith, same, t .small, p .kept);
+      fits = omega (arith, same, said-most s b, t .counts, p .kept);
       state = t .state ∙ (ap (λ (x : Reading). step x b) (p .state) ∙ (sym (after-one s₀ (take i input) b) ∙ sym (ap (after s₀) more)));
       counts = rw (grown, length-append) (omega (arith, p .counts, t .counts));
       shown = back-is out part at ∙ rw (front, part-is, grown, append-assoc);
@@ -120,7 +120,7 @@ add-at c =
     let l = c .before .before .before .before .before .before .before .before .before .before .before .before .loop in
     let p = c .before .before .before .before .before .before .before .before .before .before .before .before .before .before .before .before in
     let x = c .before .before .before .before .before .before .take-byte in
-    omega (arith, p .good, x .ensures .1 .small)
+    omega (arith, p .good, x .ensures .1 .counts, said-most (reading (l .s) (l .line)) (getD (p .args .input .now) (l .i) 0))
 
 add-i : tie.Need-add-i Inv-loop μ-loop
 add-i c = omega arith

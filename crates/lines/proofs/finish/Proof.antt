@@ -31,7 +31,7 @@ returns-2 c =
     let x = c .before .before .emit in
     let e = last-some (reading (a .state) (a .line .now))
     (λ q. c .before .before .before .before .before .if1 .left (sym (length-take-le (a .state .len) (a .line .now) (omega arith)) ∙ q)) in
-    record { counts = rw e (x .ensures .0); out = rw e (x .ensures .1 .0) }
+    record { counts = rw e (x .ensures .0); out = rw e (x .ensures .1) }
 
 pub finish-spec : {M : Type 1} → statement M
 finish-spec = tie.close (tie.spec returns slice-aggregate-emit emit-requires same-length returns-2)

@@ -32,7 +32,7 @@ returns c =
     let a = c .before .before .before .before .before .before .before .before .args in
     let x = c .before .before .emit in
     let q = eq-eqb (a .b) lineFeed (c .before .before .before .before .before .if1 .taken) in
-    (omega arith, record { state = simp q; counts = simp q (x .ensures .0); out = simp q (x .ensures .1 .0); small = x .ensures .1 .1 })
+    (omega arith, record { state = simp q; counts = simp q (x .ensures .0); out = simp q (x .ensures .1) })
 
 put-behind-requires : tie.Need-put-behind-requires
 put-behind-requires c κs = search needs
@@ -49,7 +49,7 @@ returns-2 c =
     let a = c .before .before .before .before .before .before .before .before .before .args in
     let q = ne-eqb (a .b) lineFeed (c .before .before .before .before .before .before .if1 .left) in
     let p = c .before .before .before .before .put-behind .ensures in
-    (search needs, record { state = simp q (rw (p .1) at (c .skip-mark .ensures .1)); counts = simp q; out = simp q; small = omega arith })
+    (search needs, record { state = simp q (rw (p .1) at (c .skip-mark .ensures .1)); counts = simp q; out = simp q })
 
 pub take-byte-spec : {M : Type 1} → statement M
 take-byte-spec =
