@@ -4,17 +4,17 @@ use mathlib.Core.List.{List, [], _∷_, _++_, map, flatten}
 use Prim.Native.Nat.{ℕ, _≤_, _<_}
 use lib.ListN.{length}
 use Rattle.lines.specs.declared.State.{State}
-use Rattle.lines.specs.Plain.{lineFeed, refusal, skipMark, linesOf, answerLine, output}
+use Rattle.lines.specs.Plain.{lineFeed, questionMark, refusal, skipMark, linesOf, answerLine, output}
 use Rattle.lines.specs.Machine.{Reading, stemRoom, lineRoom, start, reading, after, written, lastLine, Feeds}
 use Rattle.lines.specs.Calls.{Calls}
-use Rattle.lines.specs.Facts.{NoLf, Free, shown}
+use Rattle.lines.specs.Facts.{Without, shown}
 use Rattle.lines.specs.Examples.{examples}
 use Rattle.stemmer.specs.Entries.{codeOf, stemBytes, stemAnswer}
 use Rattle.lines.proofs.Questions.{no-question}
 use Rattle.lines.proofs.Room.{never-three}
 use Rattle.lines.proofs.Answering.{line-answer, line-long}
 use Rattle.lines.proofs.Examples.{examples-right}
-use Rattle.lines.proofs.Splitting.{line-first, line-last}
+use Rattle.lines.proofs.Splitting.{no-lf, line-first, line-last}
 use Rattle.lines.proofs.Calling.{calls-output, calls-are, feeds-some}
 use Rattle.lines.proofs.Whole.{whole}
 
@@ -48,15 +48,15 @@ pub main-overlong : (w : List ℕ) → 255 < length w → answerLine w ≡ refus
 main-overlong = line-long
 
 -- no stem holds `?`, so that a line with `?` is a refusal
-pub main-question : (w : List ℕ) → Free (stemBytes w)
+pub main-question : (w : List ℕ) → Without questionMark (stemBytes w)
 main-question = no-question
 
 -- the lines of an input: what stands before the first LF is one, and what stands behind the last LF is one if it has a byte
-pub main-line : (w bs : List ℕ) → NoLf w → linesOf (w ++ lineFeed ∷ bs) ≡ w ∷ linesOf bs
-main-line w bs n = line-first w lineFeed bs n refl
+pub main-line : (w bs : List ℕ) → Without lineFeed w → linesOf (w ++ lineFeed ∷ bs) ≡ w ∷ linesOf bs
+main-line w bs n = line-first w lineFeed bs (no-lf w n) refl
 
-pub main-last-line : (x : ℕ) (xs : List ℕ) → NoLf (x ∷ xs) → linesOf (x ∷ xs) ≡ (x ∷ xs) ∷ []
-main-last-line = line-last
+pub main-last-line : (x : ℕ) (xs : List ℕ) → Without lineFeed (x ∷ xs) → linesOf (x ∷ xs) ≡ (x ∷ xs) ∷ []
+main-last-line x xs n = line-last x xs (no-lf (x ∷ xs) n)
 
 -- the examples have the lines that are listed beside them
 pub main-examples : map (λ (e : List ℕ × List (List ℕ)). linesOf (skipMark (e .0))) examples ≡ map (λ (e : List ℕ × List (List ℕ)). e .1) examples

@@ -15,13 +15,13 @@ use Rattle.definition.proofs.Match.{by}
 use Rattle.utf8.specs.Utf8.{encode1, encode}
 use Rattle.stemmer.specs.Entries.{letters, bytesOf, stemBytes}
 use Rattle.lines.specs.Plain.{questionMark}
-use Rattle.lines.specs.Facts.{Free}
+use Rattle.lines.specs.Facts.{Without}
 
-free-append : (a b : List ℕ) → Free a → Free b → Free (a ++ b)
+free-append : (a b : List ℕ) → Without questionMark a → Without questionMark b → Without questionMark (a ++ b)
 free-append [] b f g = g
 free-append (x ∷ a) b f g = (f .0, free-append a b (f .1) g)
 
-free-letter : (c : ℕ) → (c ≡ questionMark → ⊥) → Free (encode1 c)
+free-letter : (c : ℕ) → (c ≡ questionMark → ⊥) → Without questionMark (encode1 c)
 unfolding encode1
 free-letter c h =
     by (ltb c 0x80) (λ t. rw t (h, tt))
@@ -37,11 +37,11 @@ question-row = (omega arith, refl)
 plain-free : (c : ℕ) → Plain c → c ≡ questionMark → ⊥
 plain-free c p e = p .noKey 9 (question-row .0) (question-row .1 ∙ ap (λ (x : ℕ). x ∷ []) (sym e))
 
-free-word : (w : Word) → AllOf Plain w → Free (encode w)
+free-word : (w : Word) → AllOf Plain w → Without questionMark (encode w)
 unfolding encode
 free-word [] p = tt
 free-word (c ∷ w) p = free-append (encode1 c) (encode w) (free-letter c (plain-free c (p .0))) (free-word w (p .1))
 
-pub no-question : (w : List ℕ) → Free (stemBytes w)
+pub no-question : (w : List ℕ) → Without questionMark (stemBytes w)
 unfolding bytesOf
 no-question w = free-word (stem (letters w)) (main-demand3 (letters w) .plain)

@@ -4,8 +4,18 @@ use mathlib.Core.Bool.{true, false}
 use mathlib.Core.List.{List, [], _∷_, _++_}
 use Prim.Native.Nat.{ℕ}
 use lib.Dec.{eqb}
+use borrow.Author.Tests.{ne-eqb}
 use Rattle.lines.specs.Plain.{lineFeed, onto, linesOf}
-use Rattle.lines.specs.Facts.{NoLf}
+use Rattle.lines.specs.Facts.{Without}
+
+-- no byte of the list is LF, by the test
+abbrev pub NoLf : List ℕ → Type 0
+NoLf [] = Unit {0}
+NoLf (x ∷ xs) = (eqb x lineFeed ≡ false) × NoLf xs
+
+pub no-lf : (w : List ℕ) → Without lineFeed w → NoLf w
+no-lf [] h = tt
+no-lf (x ∷ xs) h = (ne-eqb x lineFeed (h .0), no-lf xs (h .1))
 
 pub no-lf-behind : (p : List ℕ) (b : ℕ) → NoLf p → eqb b lineFeed ≡ false → NoLf (p ++ b ∷ [])
 no-lf-behind [] b h e = (e, tt)

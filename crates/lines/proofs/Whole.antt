@@ -12,11 +12,10 @@ use Rattle.definition.specs.Words.{same, beginsWith}
 use Rattle.definition.proofs.Match.{by, by-le}
 use Rattle.lines.specs.Plain.{lineFeed, mark, skipMark, linesOf, answerLine, output}
 use Rattle.lines.specs.Machine.{Reading, keptBytes, start, putBehind, opened, step, said, after, written, lastLine}
-use Rattle.lines.specs.Facts.{NoLf}
 use Rattle.lines.proofs.Answering.{line-kept, empty-kept}
 use Rattle.lines.proofs.Opening.{opened-three, opened-later, opened-other, uncut, lf-no-mark}
 use Rattle.lines.proofs.Runs.{last-none, last-some}
-use Rattle.lines.proofs.Splitting.{no-lf-behind, line-first, line-last}
+use Rattle.lines.proofs.Splitting.{NoLf, no-lf-behind, line-first, line-last}
 
 -- what is written from a state on, the end of the input included
 run : Reading → List ℕ → List ℕ
