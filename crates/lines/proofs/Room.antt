@@ -1,13 +1,13 @@
 -- A stem has at most as many bytes as the normalised word, so that 340 bytes are room enough for every stem. Assumes nothing.
 use mathlib.Core.Path.{_≡_, refl, sym, ap, _∙_}
-use mathlib.Core.Bool.{Bool, true, false, not, false≢true}
+use mathlib.Core.Bool.{Bool, true, false, false≢true}
 use mathlib.Core.Logic.{_⊎_, ⊎-elim}
 use mathlib.Core.List.{List, [], _∷_, _++_, append-assoc}
 use Prim.Native.Nat.{ℕ, zero, suc, _+_, _<_, _≤_}
 use native.Mathlib.Omega.{arith}
 use lib.Dec.{ltb}
 use lib.ListN.{length, getD, length-append}
-use borrow.Author.Tests.{lt-ltb, le-ltb, ltb-false}
+use borrow.Author.Tests.{lt-ltb, le-ltb}
 use Rattle.definition.specs.Letters.{hamza, alef, waw, yeh}
 use Rattle.definition.specs.Words.{Word, pick}
 use Rattle.definition.specs.Tables.{«A_4»}
@@ -17,12 +17,14 @@ use Rattle.definition.specs.Fronts.{Applied}
 use Rattle.definition.specs.Stem.{stem, front, headLetter, run, back}
 use Rattle.definition.specs.Demand3.{Change, last-hamza, other-alef, other-waw, other-yeh, last-yeh, fourth-alef, stays, HeadOf, noHead, oneHead, Demand3}
 use Rattle.definition.proofs.Main.{main-demand3}
-use Rattle.utf8.specs.Utf8.{encode1, encode, wellFormed}
+use Rattle.utf8.specs.Utf8.{encode1, encode}
 use Rattle.utf8.proofs.Text.{encode-append}
 use Rattle.arabic.proofs.Main.{main-fits}
-use Rattle.stemmer.specs.declared.Answer.the-variants.{Done, TooLong, NotWellFormed, NoRoom}
-use Rattle.stemmer.specs.Entries.{codeOf, letters, bytesOf, fitting, answer, stemBytes, stemAnswer}
-use Rattle.stemmer.proofs.Answers.{word-letters, spelling, letters-of}
+use Rattle.stemmer.specs.declared.Answer.the-variants.{Done, NoRoom}
+use Rattle.stemmer.specs.declared.Checked.{Checked}
+use Rattle.stemmer.specs.declared.Checked.the-variants.{Overlong, Malformed, Accepted}
+use Rattle.stemmer.specs.Entries.{codeOf, checked, afterChecks, letters, bytesOf, fitting, answer, stemBytes, stemAnswer}
+use Rattle.stemmer.proofs.Answers.{short, spelling}
 use Rattle.lines.specs.Machine.{stemRoom}
 
 none-size : length (encode []) ≡ 0
@@ -94,24 +96,20 @@ stem-size w s d =
     omega (arith, kept, first, parts, append-size (headLetter w) (run w), append-size (front w) (run w ++ back w), append-size (run w) (back w))
 
 -- 340 bytes are enough for the stem of a word that is not refused
-stem-fits : (w : List ℕ) → length w ≤ 255 → wellFormed w ≡ true → length (stemBytes w) ≤ stemRoom
+stem-fits : (w : List ℕ) → checked w ≡ Accepted → length (stemBytes w) ≤ stemRoom
 unfolding bytesOf
-stem-fits w h t =
-    let size : length (encode (letters w)) ≡ length w = ap (λ (x : Word). length (encode x)) (letters-of w t) ∙ ap length (sym (spelling w t)) in
+stem-fits w e =
+    let size : length (encode (letters w)) ≡ length w = ap length (sym (spelling w e)) in
+    let few = short w e in
     omega (arith, stem-size (letters w) (stem (letters w)) (main-demand3 (letters w)), main-fits (letters w) (omega arith))
 
-not-false : (b : Bool) → not b ≡ false → b ≡ true
-not-false true e = refl
-not-false false e = absurd (false≢true (sym e))
-
-no-three : (b c d : Bool) (m : ℕ) → (b ≡ false → c ≡ false → d ≡ false) → codeOf (pick b TooLong (pick c NotWellFormed (pick d NoRoom (Done m)))) ≡ 3 → ⊥
-no-three true c d m f z = omega arith
-no-three false true d m f z = omega arith
-no-three false false true m f z = false≢true (sym (f refl refl))
-no-three false false false m f z = omega arith
+no-three : (k : Checked) (d : Bool) (m : ℕ) → (k ≡ Accepted → d ≡ false) → codeOf (afterChecks k (pick d NoRoom (Done m))) ≡ 3 → ⊥
+no-three Overlong d m f z = omega arith
+no-three Malformed d m f z = omega arith
+no-three Accepted true m f z = false≢true (sym (f refl))
+no-three Accepted false m f z = omega arith
 
 pub never-three : (w : List ℕ) → codeOf (stemAnswer w stemRoom) ≡ 3 → ⊥
 unfolding answer fitting
 never-three w =
-    no-three (ltb 255 (length w)) (not (wellFormed w)) (ltb stemRoom (length (stemBytes w))) (length (stemBytes w))
-    (λ b c. le-ltb stemRoom (length (stemBytes w)) (stem-fits w (omega (arith, ltb-false 255 (length w) b)) (not-false (wellFormed w) c)))
+    no-three (checked w) (ltb stemRoom (length (stemBytes w))) (length (stemBytes w)) (λ e. le-ltb stemRoom (length (stemBytes w)) (stem-fits w e))
