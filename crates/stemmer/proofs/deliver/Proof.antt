@@ -3,7 +3,7 @@ use mathlib.Core.Path.{_≡_, refl, sym, _∙_}
 use mathlib.Core.List.{List, _++_}
 use Prim.Native.Nat.{ℕ, _≤_}
 use native.Mathlib.Omega.{arith}
-use lib.ListN.{length, take, drop}
+use lib.ListN.{length, take, drop, length-take}
 use lib.Seq.{length-take-le, take-length}
 use borrow.Author.Needs.{needs}
 use borrow.Author.Tests.{lt-ltb, le-ltb}
@@ -21,14 +21,10 @@ unfolding fitting outAfter
 returns c = simp (lt-ltb _ _ (c .if1 .taken)) (refl, refl)
 
 slice-aggregate-copy : tie.Need-slice-aggregate-copy
-slice-aggregate-copy c =
-    let a = c .before .before .before .before .args in
-    sym (length-take-le (a .n) (a .text .now) (omega arith))
+slice-aggregate-copy c = sym (length-take-le _ _ (omega arith))
 
 copy-requires : tie.Need-copy-requires
-copy-requires c κs =
-    let a = c .before .before .before .before .before .args in
-    omega (arith, length-take-le (a .n) (a .text .now) (omega arith))
+copy-requires c κs = simp length-take (omega arith)
 
 same-length : tie.Need-same-length
 same-length c = search needs
