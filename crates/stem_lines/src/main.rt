@@ -8,13 +8,30 @@ ghost use lib.ListN.{length};
 ghost use Rattle.lines.specs.Machine.{keptBytes, lineRoom, reading, after};
 use libc::STDIN_FILENO;
 use libc::STDOUT_FILENO;
+use libc::types::timespec;
+
+// How long a wait is: a millisecond, in nanoseconds.
+const WAIT_NANOSECONDS: i64 = 1000000;
+
+// Sleeps for that long, or until a signal comes.
+fn wait_a_moment() {
+    let asked = timespec {
+        tv_sec: 0,
+        tv_nsec: WAIT_NANOSECONDS,
+    };
+    let mut left = timespec {
+        tv_sec: 0,
+        tv_nsec: 0,
+    };
+    libc::nanosleep(&asked, &mut left);
+}
 
 // Whether the call that just failed is to be made again: after a signal, and where there is nothing to read or no room yet,
-// which lets other programs run first.
+// which waits a moment first.
 fn again() -> bool {
     let error = os::errno();
     if error == libc::EAGAIN {
-        libc::sched_yield();
+        wait_a_moment();
         return true;
     }
     error == libc::EINTR
