@@ -1,4 +1,4 @@
--- `stem_lines::end` meets its contract: what `finish` wrote lies within the output. Assumes what the toolchain declares of `write`, `sched_yield` and errno.
+-- `stem_lines::end` meets its contract: what `finish` wrote lies within the output. Assumes what the toolchain declares of `write`, `nanosleep` and errno.
 use mathlib.Core.Path.{ap, sym}
 use native.Mathlib.Omega.{arith}
 use lib.ListN.{length, length-append}

@@ -1,4 +1,4 @@
--- `stem_lines::pump` meets its contract: from turn to turn the state is that of the bytes passed. Assumes what the toolchain declares of `write`, `sched_yield` and errno.
+-- `stem_lines::pump` meets its contract: from turn to turn the state is that of the bytes passed. Assumes what the toolchain declares of `write`, `nanosleep` and errno.
 use mathlib.Core.Path.{_≡_, refl, sym, ap, _∙_}
 use mathlib.Core.Bool.{false≢true}
 use Prim.Native.Nat.{_-_, _≤_}

@@ -1,4 +1,4 @@
--- `stem_lines::read_some` meets its contract: each try counts one down. Assumes what the toolchain declares of `read`, `sched_yield` and errno.
+-- `stem_lines::read_some` meets its contract: each try counts one down. Assumes what the toolchain declares of `read`, `nanosleep` and errno.
 use mathlib.Core.Path.{_≡_}
 use lib.ListN.{length}
 use mathlib.Core.Logic.{⊎-elim}

@@ -1,4 +1,4 @@
--- `stem_lines::run` meets its contract: the lengths stay, and each read counts one down. Assumes what the toolchain declares of `read`, `write`, `sched_yield` and errno.
+-- `stem_lines::run` meets its contract: the lengths stay, and each read counts one down. Assumes what the toolchain declares of `read`, `write`, `nanosleep` and errno.
 use mathlib.Core.Path.{_≡_}
 use Prim.Native.Nat.{_≤_}
 use lib.ListN.{length}

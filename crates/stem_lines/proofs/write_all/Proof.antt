@@ -1,4 +1,4 @@
--- `stem_lines::write_all` meets its contract: each turn leaves fewer bytes. Assumes what the toolchain declares of `write`, `sched_yield` and errno.
+-- `stem_lines::write_all` meets its contract: each turn leaves fewer bytes. Assumes what the toolchain declares of `write`, `nanosleep` and errno.
 use Prim.Native.Nat.{_-_, _≤_}
 use native.Mathlib.Omega.{arith}
 use lib.ListN.{length}

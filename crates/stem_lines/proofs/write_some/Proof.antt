@@ -1,4 +1,4 @@
--- `stem_lines::write_some` meets its contract: each try counts one down. Assumes what the toolchain declares of `write`, `sched_yield` and errno.
+-- `stem_lines::write_some` meets its contract: each try counts one down. Assumes what the toolchain declares of `write`, `nanosleep` and errno.
 use borrow.Author.Needs.{needs}
 use Rattle.stem_lines.proofs.write_some.Statement.{statement}
 use Rattle.stem_lines.proofs.write_some.Tie as tie
