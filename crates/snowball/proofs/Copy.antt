@@ -1,21 +1,33 @@
 -- Bytes copied into an array. Assumes nothing.
 use mathlib.Core.Path.{_≡_, sym, ap, _∙_}
-use Prim.Native.Nat.{ℕ, _+_, _-_, _≤_, _<_}
-use mathlib.Core.List.{List, _++_}
-use native.Mathlib.Numerals.{add-one}
+use Prim.Native.Nat.{ℕ, _+_, _-_, _≤_}
+use mathlib.Core.List.{List, [], _++_, append-assoc, append-nil}
 use native.Mathlib.Omega.{arith}
-use lib.ListN.{length, take, getD, set}
-use lib.Seq.{paste, paste-suc, length-paste, take-paste, take-take, take-all, take-length, getD-take, getD-drop, slice, length-slice}
+use lib.ListN.{length, take, drop, length-drop}
+use lib.Seq.{paste, length-paste, take-paste, take-take, take-all, take-length, take-add, length-take-le, drop-at, drop-drop, drop-length, slice, length-slice}
+use borrow.Rule.Slice.PartMut.{midOf, postOf, putMid, mid-len, post-is}
 use Rattle.snowball.specs.Cut.{replaced}
 
--- a turn of the loop that copies
-pub copy-turn : (out out₀ : List ℕ) (at : ℕ) (text : List ℕ) (from to i : ℕ) → out ≡ paste out₀ at (slice from to text) i → to ≤ length text
-    → at + i < length out₀ → from + i < to → set out (at + i) (getD text (from + i) 0) ≡ paste out₀ at (slice from to text) (i + 1)
-copy-turn out out₀ at text from to i e l h k =
-    let same : getD (slice from to text) i 0 ≡ getD text (from + i) 0 = getD-drop from (take to text) i 0 ∙ getD-take to text (from + i) 0 k in
-    (λ j. set (e j) (at + i) (sym same j))
-    ∙ paste-suc out₀ at (slice from to text) i 0 h (omega (arith, length-slice from to text l))
-    ∙ ap (paste out₀ at (slice from to text)) (sym (add-one i))
+-- what `&text[from..to]` shows
+part-is : (text : List ℕ) (from to : ℕ) → from ≤ to → to ≤ length text → take (to - from) (drop from text) ≡ slice from to text
+part-is text from to h l =
+    let e : to ≡ from + (to - from) = omega arith in
+    sym (ap (λ (k : ℕ). drop from (take k text)) e
+    ∙ ap (drop from) (take-add from (to - from) text)
+    ∙ drop-at (take from text) (take (to - from) (drop from text)) from (length-take-le from text (omega arith)))
+
+-- the whole, once `bytes::copy` has written that to `&mut out[at..]`
+pub copied-part : (out part text : List ℕ) (at from to : ℕ) → from ≤ to → to ≤ length text → at ≤ length out
+    → part ≡ take (length (midOf from (to - from) text)) (midOf from (to - from) text)
+    ++ drop (length (midOf from (to - from) text)) (midOf at (length out - at) out)
+    → putMid at (length out - at) out part ≡ paste out at (slice from to text) (to - from)
+copied-part out part text at from to h l k e =
+    let n : length (midOf from (to - from) text) ≡ to - from = mid-len from to text l in
+    let rest : postOf at (length out - at) out ≡ [] = post-is at (length out) out k ∙ drop-length out in
+    let all : midOf at (length out - at) out ≡ drop at out = take-all (length out - at) (drop at out) (simp length-drop (omega arith)) in
+    let whole-part : part ≡ take (to - from) (slice from to text) ++ drop (at + (to - from)) out =
+    e ∙ rw (n, part-is text from to h l, all, drop-drop) in
+    rw (rest, append-nil, whole-part, append-assoc)
 
 -- a copy of a whole text
 module _ (out out₀ : List ℕ) (at : ℕ) (s : List ℕ) (e : out ≡ paste out₀ at (slice 0 (length s) s) (length s - 0)) (h : at + length s ≤ length out₀) where

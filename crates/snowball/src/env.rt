@@ -34,16 +34,11 @@ pub struct Matched {
 }
 
 // The Rust's push_str, into an array: text[from..to] is copied to out from the index at on.
-fn put(out: &mut [u8; WORK_SIZE], at: usize, text: &[u8], from: usize, to: usize)
+fn put(out: &mut [u8], at: usize, text: &[u8], from: usize, to: usize)
     requires { ⌜ (length (now out) ≡ workSize) × (from ≤ to) × (to ≤ length (now text)) × (at + (to - from) ≤ workSize) ⌝ }
     ensures { λ _. ⌜ now (out .exit) ≡ paste (now (out .entry)) at (slice from to (now (text .entry))) (to - from) ⌝ }
 {
-    let n = to - from;
-    let mut i = 0;
-    while i < n {
-        out[at + i] = text[from + i];
-        i += 1;
-    }
+    bytes::copy(&text[from..to], &mut out[at..]);
 }
 
 // The Rust's is_char_boundary, asked of a byte: whether a letter starts with it.
@@ -175,9 +170,9 @@ impl Env {
         let limit = self.limit;
         let cut = ket - bra;
         let len = s.len();
-        let old = self.current;
-        put(&mut self.current, bra, s, 0, len);
-        put(&mut self.current, bra + len, &old, ket, limit);
+        let mut current = self.current;
+        put(&mut current, bra, s, 0, len);
+        put(&mut current, bra + len, &self.current, ket, limit);
         let mut cursor = self.cursor;
         if cursor >= ket {
             cursor = cursor - cut + len;
@@ -186,6 +181,7 @@ impl Env {
         }
         self.cursor = cursor;
         self.limit = limit - cut + len;
+        self.current = current;
         self
     }
 

@@ -1,68 +1,50 @@
--- The loop's invariant: the first i bytes are copied. Assumes nothing.
-use mathlib.Core.Path.{_≡_, ap, _∙_}
-use Prim.Native.Nat.{_-_, _≤_}
+-- `put` meets its contract: the library's copy, of a part to a part. Assumes nothing.
 use native.Mathlib.Omega.{arith}
-use lib.Seq.{paste, paste-zero, slice}
-use Rattle.snowball.proofs.Copy.{copy-turn}
+use borrow.Author.Needs.{needs}
+use Rattle.snowball.proofs.Copy.{copied-part}
 use Rattle.snowball.proofs.env.put.Statement.{statement}
 use Rattle.snowball.proofs.env.put.Tie as tie
 
-abbrev Inv-loop : tie.InvT-loop
-Inv-loop out₀ at text from to n i₀ out i = (i ≤ n) × (out ≡ paste out₀ at (slice from to text) i)
+sub-copy : tie.Need-sub-copy
+sub-copy c = search needs
 
-abbrev μ-loop : tie.MeasureT-loop
-μ-loop out₀ at text from to n i₀ out i = n - i
+part-copy-start : tie.Need-part-copy-start
+part-copy-start c = search needs
 
-sub-n : tie.Need-sub-n Inv-loop μ-loop
-sub-n c = omega arith
+part-copy-end : tie.Need-part-copy-end
+part-copy-end c = search needs
 
-loop-holds : tie.Need-loop-holds Inv-loop μ-loop
-loop-holds c = (omega arith, paste-zero (c .args .out .now) (c .args .at) (slice (c .args .from) (c .args .to) (c .args .text .now)))
+sub-copy-2 : tie.Need-sub-copy-2
+sub-copy-2 c = search needs
 
-add-out : tie.Need-add-out Inv-loop μ-loop
-add-out c = omega arith
+part-copy-start-2 : tie.Need-part-copy-start-2
+part-copy-start-2 c = search needs
 
-shared-slice-read-out : tie.Need-shared-slice-read-out Inv-loop μ-loop
-shared-slice-read-out c = omega arith
+part-copy-end-2 : tie.Need-part-copy-end-2
+part-copy-end-2 c = search needs
 
-add-out-2 : tie.Need-add-out-2 Inv-loop μ-loop
-add-out-2 c = omega arith
+copy-requires : tie.Need-copy-requires
+copy-requires c κs = search needs
 
-element-write-out : tie.Need-element-write-out Inv-loop μ-loop
-element-write-out c = omega arith
+same-length : tie.Need-same-length
+same-length c = search needs
 
-add-i : tie.Need-add-i Inv-loop μ-loop
-add-i c = omega arith
-
-loop-less : tie.Need-loop-less Inv-loop μ-loop
-loop-less c = omega arith
-
-loop-again : tie.Need-loop-again Inv-loop μ-loop
-loop-again c =
-    let x = c .before .before .before .args in
-    let l = c .before .before .loop in
-    (omega arith, copy-turn (l .out) (x .out .now) (x .at) (x .text .now) (x .from) (x .to) (l .i) (l .inv .1) (omega arith) (omega arith) (omega arith))
-
-returns : tie.Need-returns Inv-loop μ-loop
+returns : tie.Need-returns
 returns c =
-    let x = c .before .before .args in
-    let l = c .before .loop in
-    let h : l .i ≡ x .to - x .from = omega arith in
-    l .inv .1 ∙ ap (paste (x .out .now) (x .at) (slice (x .from) (x .to) (x .text .now))) h
+    let x = c .before .before .before .before .before .before .before .args in
+    copied-part (x .out .now) (c .before .before .copy .last .1 .0) (x .text .now) (x .at) (x .from) (x .to) (omega arith) (omega arith) (omega arith)
+    (c .before .before .copy .ensures .1)
 
 pub put-spec : {M : Type 1} → statement M
 put-spec =
     tie.close
     (tie.spec
-    Inv-loop
-    μ-loop
-    sub-n
-    loop-holds
-    add-out
-    shared-slice-read-out
-    add-out-2
-    element-write-out
-    add-i
-    loop-less
-    loop-again
+    sub-copy
+    part-copy-start
+    part-copy-end
+    sub-copy-2
+    part-copy-start-2
+    part-copy-end-2
+    copy-requires
+    same-length
     returns)

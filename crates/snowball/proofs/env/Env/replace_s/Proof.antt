@@ -15,18 +15,21 @@ use Rattle.snowball.specs.Stands.{workSize}
 sub-cut : tie.Need-sub-cut
 sub-cut c = search needs
 
+slice-aggregate-put : tie.Need-slice-aggregate-put
+slice-aggregate-put c = search needs
+
 put-requires : tie.Need-put-requires
 put-requires c κs = search needs
+
+slice-aggregate-put-2 : tie.Need-slice-aggregate-put-2
+slice-aggregate-put-2 c = search needs
 
 add-put : tie.Need-add-put
 add-put c = search needs
 
-slice-aggregate-put : tie.Need-slice-aggregate-put
-slice-aggregate-put c = search needs
-
 put-requires-2 : tie.Need-put-requires-2
 put-requires-2 c κs =
-    let p = c .before .before in
+    let p = c .before .before .before .before .before in
     let a = p .before .before .before .before in
     let x = a .args in
     let n : length (x .t1 .current) ≡ workSize = owned-length (x .t1) _ (a .good .0) in
@@ -46,14 +49,14 @@ add-self c = search needs
 
 returns : tie.Need-returns
 returns c =
-    let p = c .before .before .before .before in
+    let p = c .before .before .before .before .before .before .before .before in
     let a = p .before .before .before .before in
     let x = a .args in
     let k : ℕ = length (x .s .now) in
     let n : length (x .t1 .current) ≡ workSize = owned-length (x .t1) _ (a .good .0) in
     record {
-      bytes = copied-bytes (x .t1 .current) (p .put .last .0) (c .before .put2 .last .0) (x .s .now) (x .bra) (x .ket) (x .t1 .limit)
-          (omega arith) (omega arith) (omega arith) (omega arith) (p .put .ensures) (c .before .put2 .ensures);
+      bytes = copied-bytes (x .t1 .current) (p .put .last .0) (c .before .before .put2 .last .0) (x .s .now) (x .bra) (x .ket) (x .t1 .limit)
+          (omega arith) (omega arith) (omega arith) (omega arith) (p .put .ensures) (c .before .before .put2 .ensures);
       limit = refl;
       cursor =
           ⊎-elim
@@ -74,9 +77,10 @@ replace-s-spec =
     tie.close
     (tie.spec
     sub-cut
-    put-requires
-    add-put
     slice-aggregate-put
+    put-requires
+    slice-aggregate-put-2
+    add-put
     put-requires-2
     sub-cursor
     add-cursor
