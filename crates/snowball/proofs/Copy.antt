@@ -9,7 +9,7 @@ use borrow.Rule.Slice.PartMut.{midOf, postOf, putMid, mid-len, post-is}
 use Rattle.snowball.specs.Cut.{replaced}
 
 -- what `&text[from..to]` shows
-part-is : (text : List ℕ) (from to : ℕ) → from ≤ to → to ≤ length text → take (to - from) (drop from text) ≡ slice from to text
+pub part-is : (text : List ℕ) (from to : ℕ) → from ≤ to → to ≤ length text → take (to - from) (drop from text) ≡ slice from to text
 part-is text from to h l =
     let e : to ≡ from + (to - from) = omega arith in
     sym (ap (λ (k : ℕ). drop from (take k text)) e

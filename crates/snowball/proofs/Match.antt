@@ -1,41 +1,28 @@
--- A key at a place: byte by byte, and that bytes match just where letters do. Assumes nothing.
+-- A key at a place: by the library's comparison, and that bytes match just where letters do. Assumes nothing.
 use mathlib.Core.Path.{_≡_, sym, ap, _∙_}
 use Prim.Native.Nat.{ℕ, _+_, _-_, _≤_, _<_}
 use mathlib.Core.Bool.{Bool, true, false}
 use mathlib.Core.List.{List, _++_, append-assoc}
 use native.Mathlib.Omega.{arith}
-use lib.ListN.{length, take, drop, getD, length-append, length-drop, take-append-drop, List·getD-append}
-use lib.Seq.{length-take-le, take-at, getD-take, getD-drop, length-slice, ext-getD}
+use lib.ListN.{length, take, drop, length-append, length-drop, take-append-drop}
+use lib.Seq.{length-take-le, take-at, take-take, length-slice}
 use borrow.Author.Tests.{lt-ltb, le-ltb}
 use Rattle.definition.specs.Words.{pick, same, beginsWith}
-use Rattle.definition.proofs.Match.{by, by-le, clash, same-refl, begins-split}
+use Rattle.definition.proofs.Match.{by, by-le, clash, same-eq, same-refl, begins-split}
 use Rattle.utf8.specs.Utf8.{Scalars, encode}
 use Rattle.utf8.specs.Places.{size, At}
-use Rattle.utf8.proofs.Matches.{front-bytes}
+use Rattle.utf8.proofs.Matches.{iff, front-bytes}
 use Rattle.utf8.proofs.Places.{size-append, drop-size}
 use Rattle.snowball.specs.Match.{standsAt}
+use Rattle.snowball.proofs.Copy.{part-is}
 use Rattle.snowball.proofs.Places.{place-inside, place-outside, scalars-drop}
 
--- ---- a key at the front, by its elements
+-- ---- a key at the front
 
 module _ (w key : List ℕ) where
-  begins-yes : length key ≤ length w → ((i : ℕ) → i < length key → getD w i 0 ≡ getD key i 0) → beginsWith w key ≡ true
-  unfolding beginsWith
-  begins-yes h f =
-      let n : length (take (length key) w) ≡ length key = length-take-le (length key) w h in
-      ap (λ (x : List ℕ). same x key)
-      (ext-getD 0 (take (length key) w) key n (λ i l. let k : i < length key = omega arith in getD-take (length key) w i 0 k ∙ f i k))
-      ∙ same-refl key
-
   begins-short : length w < length key → beginsWith w key ≡ false
   begins-short h =
       by (beginsWith w key) (λ e. absurd (omega (arith, ap length (begins-split w key e), length-append key (drop (length key) w)))) (λ e. e)
-
-  begins-other : (i : ℕ) → i < length key → (getD w i 0 ≡ getD key i 0 → ⊥) → beginsWith w key ≡ false
-  begins-other i h f =
-      by (beginsWith w key)
-      (λ e. absurd (f (ap (λ (x : List ℕ). getD x i 0) (begins-split w key e) ∙ List·getD-append key (drop (length key) w) 0 i h)))
-      (λ e. e)
 
 -- ---- a key at a place
 
@@ -54,8 +41,9 @@ module _ (text : List ℕ) (cursor limit : ℕ) (key : List ℕ) (h : limit ≤ 
   left : length (drop cursor (take limit text)) ≡ limit - cursor
   left = length-slice cursor limit text h
 
-  there : (i : ℕ) → cursor + i < limit → getD (drop cursor (take limit text)) i 0 ≡ getD text (cursor + i) 0
-  there i l = getD-drop cursor (take limit text) i 0 ∙ getD-take limit text (cursor + i) 0 l
+  -- what `&text[cursor..end]` shows
+  abbrev part : List ℕ
+  part = take (cursor + length key - cursor) (drop cursor text)
 
   pub at-end : limit ≤ cursor → false ≡ standsAt (take limit text) cursor key
   at-end l = sym (stands-end (take limit text) cursor key (omega (arith, n)))
@@ -75,14 +63,21 @@ module _ (text : List ℕ) (cursor limit : ℕ) (key : List ℕ) (h : limit ≤ 
     pub at-short : limit - cursor < length key → false ≡ standsAt (take limit text) cursor key
     at-short l = sym (inside ∙ begins-short (drop cursor (take limit text)) key (omega (arith, left)))
 
-    pub at-other : (i : ℕ) → i < length key → cursor + i < limit → (getD text (cursor + i) 0 ≡ getD key i 0 → ⊥)
-        → false ≡ standsAt (take limit text) cursor key
-    at-other i l k f = sym (inside ∙ begins-other (drop cursor (take limit text)) key i l (λ e. f (sym (there i k) ∙ e)))
-
-    pub at-all : length key ≤ limit - cursor → ((i : ℕ) → i < length key → getD text (cursor + i) 0 ≡ getD key i 0)
-        → true ≡ standsAt (take limit text) cursor key
-    at-all l f =
-        sym (inside ∙ begins-yes (drop cursor (take limit text)) key (omega (arith, left)) (λ i k. there i (omega arith) ∙ f i k))
+    -- what comparing the key with as many bytes from the cursor on finds
+    pub at-same : (r : Bool) → length key ≤ limit - cursor → (r ≡ true → part ≡ key) → (part ≡ key → r ≡ true)
+        → r ≡ standsAt (take limit text) cursor key
+    unfolding beginsWith
+    at-same r l f g =
+        let m : cursor + length key - cursor ≡ length key = omega arith in
+        let e : part ≡ take (length key) (drop cursor (take limit text)) =
+        part-is text cursor (cursor + length key) (omega arith) (omega arith)
+        ∙ sym (ap (drop cursor) (take-take (cursor + length key) limit text (omega arith)))
+        ∙ sym (part-is (take limit text) cursor (cursor + length key) (omega arith) (omega (arith, n)))
+        ∙ ap (λ (k : ℕ). take k (drop cursor (take limit text))) m in
+        iff r (same (take (length key) (drop cursor (take limit text))) key)
+        (λ t. ap (λ (x : List ℕ). same x key) (sym e ∙ f t) ∙ same-refl key)
+        (λ t. g (e ∙ same-eq (take (length key) (drop cursor (take limit text))) key t))
+        ∙ sym inside
 
 -- ---- bytes match just where letters do
 

@@ -131,14 +131,8 @@ pub fn stands_at(text: &[u8], cursor: usize, limit: usize, key: &[u8]) -> bool
     if limit - cursor < key.len() {
         return false;
     }
-    let mut i = 0;
-    while i < key.len() {
-        if text[cursor + i] != key[i] {
-            return false;
-        }
-        i += 1;
-    }
-    true
+    let end = cursor + key.len();
+    check::same(&text[cursor..end], key)
 }
 
 impl Env {

@@ -1,82 +1,53 @@
--- The loop's invariant: the first i bytes of the key stand at the cursor. Assumes nothing.
-use mathlib.Core.Path.{_≡_}
-use Prim.Native.Nat.{ℕ, _+_, _-_, _≤_, _<_}
+-- `stands_at` meets its contract: its two tests, and the library's comparison. Assumes nothing.
 use native.Mathlib.Omega.{arith}
-use lib.ListN.{length, getD}
-use borrow.Author.Count.{below-more}
-use Rattle.snowball.proofs.Match.{at-end, at-short, at-other, at-all}
+use borrow.Author.Needs.{needs}
+use Rattle.snowball.proofs.Match.{at-end, at-short, at-same}
 use Rattle.snowball.proofs.env.stands_at.Statement.{statement}
 use Rattle.snowball.proofs.env.stands_at.Tie as tie
 
-abbrev Inv-loop : tie.InvT-loop
-Inv-loop text cursor limit key i₀ i = (i ≤ length key) × ((k : ℕ) → k < i → getD text (cursor + k) 0 ≡ getD key k 0)
-
-abbrev μ-loop : tie.MeasureT-loop
-μ-loop text cursor limit key i₀ i = length key - i
-
-returns : tie.Need-returns Inv-loop μ-loop
+returns : tie.Need-returns
 returns c =
-    let x = c .before .args in
+    let x = c .before .before .before .args in
     at-end (x .text .now) (x .cursor) (x .limit) (x .key .now) (omega arith) (omega arith)
 
-sub-if2 : tie.Need-sub-if2 Inv-loop μ-loop
-sub-if2 c = omega arith
+sub-if2 : tie.Need-sub-if2
+sub-if2 c = search needs
 
-returns-2 : tie.Need-returns-2 Inv-loop μ-loop
+returns-2 : tie.Need-returns-2
 returns-2 c =
-    let x = c .before .before .args in
+    let x = c .before .before .before .before .args in
     at-short (x .text .now) (x .cursor) (x .limit) (x .key .now) (omega arith) (omega arith) (omega arith)
 
-loop-holds : tie.Need-loop-holds Inv-loop μ-loop
-loop-holds c = (omega arith, λ k h. absurd (omega arith))
+add-end : tie.Need-add-end
+add-end c = search needs
 
-add-if3 : tie.Need-add-if3 Inv-loop μ-loop
-add-if3 c = omega arith
+sub-same : tie.Need-sub-same
+sub-same c = search needs
 
-shared-slice-read-if3 : tie.Need-shared-slice-read-if3 Inv-loop μ-loop
-shared-slice-read-if3 c = omega arith
+part-same-start : tie.Need-part-same-start
+part-same-start c = search needs
 
-shared-slice-read-if3-2 : tie.Need-shared-slice-read-if3-2 Inv-loop μ-loop
-shared-slice-read-if3-2 c = omega arith
+part-same-end : tie.Need-part-same-end
+part-same-end c = search needs
 
-returns-3 : tie.Need-returns-3 Inv-loop μ-loop
+same-requires : tie.Need-same-requires
+same-requires c κs = search needs
+
+returns-3 : tie.Need-returns-3
 returns-3 c =
-    let x = c .before .before .before .before .before .before .before .args in
-    let l = c .before .before .before .before .loop in
-    at-other (x .text .now) (x .cursor) (x .limit) (x .key .now) (omega arith) (omega arith) (l .i) (omega arith) (omega arith) (c .if3 .taken)
-
-add-i : tie.Need-add-i Inv-loop μ-loop
-add-i c = omega arith
-
-loop-less : tie.Need-loop-less Inv-loop μ-loop
-loop-less c = omega arith
-
-loop-again : tie.Need-loop-again Inv-loop μ-loop
-loop-again c =
-    let l = c .before .before .before .before .loop in
-    (omega arith, below-more _ _ (l .inv .1) (c .if3 .left))
-
-returns-4 : tie.Need-returns-4 Inv-loop μ-loop
-returns-4 c =
-    let x = c .before .before .before .before .args in
-    let l = c .before .loop in
-    at-all (x .text .now) (x .cursor) (x .limit) (x .key .now) (omega arith) (omega arith) (omega arith) (λ k h. l .inv .1 k (omega arith))
+    let x = c .before .before .before .before .before .before .args in
+    at-same (x .text .now) (x .cursor) (x .limit) (x .key .now) (omega arith) (omega arith) (c .same .result) (omega arith) (c .same .ensures .0) (c .same .ensures .1)
 
 pub stands-at-spec : {M : Type 1} → statement M
 stands-at-spec =
     tie.close
     (tie.spec
-    Inv-loop
-    μ-loop
     returns
     sub-if2
     returns-2
-    loop-holds
-    add-if3
-    shared-slice-read-if3
-    shared-slice-read-if3-2
-    returns-3
-    add-i
-    loop-less
-    loop-again
-    returns-4)
+    add-end
+    sub-same
+    part-same-start
+    part-same-end
+    same-requires
+    returns-3)
