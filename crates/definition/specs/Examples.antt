@@ -205,6 +205,14 @@ samples =
     ∷ sample (wawHamza ∷ []) (hamza ∷ []) OPEN
     ∷ sample (alefHamzaBelow ∷ []) (hamza ∷ []) OPEN
     ∷ sample (yehHamza ∷ []) (hamza ∷ []) OPEN
+    -- steps wrongly put together: Step2a in a defined word, no Step2c2 there, an exception of Step2 read at the text's start,
+    ∷ sample (lam ∷ lam ∷ tehMarbuta ∷ heh ∷ waw ∷ []) (tehMarbuta ∷ heh ∷ waw ∷ []) DEFINED
+    ∷ sample (alef ∷ lam ∷ beh ∷ tehMarbuta ∷ []) (alef ∷ lam ∷ beh ∷ []) DEFINED
+    ∷ sample (alefHamzaAbove ∷ alefHamzaAbove ∷ waw ∷ alef ∷ dal ∷ []) (alef ∷ waw ∷ alef ∷ dal ∷ []) OPEN
+    -- the verb's Step1 cut short, an inner 0649 changed
+    ∷ sample (noon ∷ teh ∷ waw ∷ heh ∷ heh ∷ heh ∷ []) (noon ∷ teh ∷ waw ∷ []) OPEN
+    ∷ sample (noon ∷ teh ∷ waw ∷ heh ∷ heh ∷ heh ∷ heh ∷ heh ∷ heh ∷ heh ∷ heh ∷ heh ∷ heh ∷ heh ∷ heh ∷ []) (noon ∷ teh ∷ waw ∷ []) OPEN
+    ∷ sample (dal ∷ alefMaksura ∷ reh ∷ []) (dal ∷ alefMaksura ∷ reh ∷ []) OPEN
     ∷ []
 
 -- Item 2 alone, on words of the letters that it reads: what it gives for them.

@@ -14,7 +14,7 @@ use Rattle.stemmer.specs.declared.Answer.{Answer}
 use Rattle.stemmer.specs.declared.Answer.the-variants.{Done, TooLong, NotWellFormed, NoRoom}
 use Rattle.stemmer.specs.declared.Checked.{Checked}
 use Rattle.stemmer.specs.declared.Checked.the-variants.{Overlong, Malformed, Accepted}
-use Rattle.stemmer.specs.Entries.{codeOf, checked, afterChecks, fitting, answer, stemBytes, stemAnswer, outAfter}
+use Rattle.stemmer.specs.Entries.{mostBytes, codeOf, checked, afterChecks, fitting, answer, stemBytes, stemAnswer, outAfter}
 use Rattle.stemmer.proofs.Answers.{done-count, done-fits, over-long}
 use Rattle.lines.specs.Plain.{lineFeed, refusal, textAfter, answerLine}
 use Rattle.lines.specs.Machine.{keptBytes, stemRoom, lineRoom}
@@ -66,7 +66,7 @@ line-most w = of (stemAnswer w stemRoom) refl
     of NoRoom e = rw (line-refused w NoRoom e (omega arith)) (omega arith)
 
 -- an overlong line is answered by `?1`
-pub line-long : (w : List ℕ) → 255 < length w → answerLine w ≡ refusal 1 ++ lineFeed ∷ []
+pub line-long : (w : List ℕ) → mostBytes < length w → answerLine w ≡ refusal 1 ++ lineFeed ∷ []
 line-long w h = line-refused w TooLong (over-long w stemRoom h) (omega arith)
 
 -- so the bytes that are kept of a line have its answer

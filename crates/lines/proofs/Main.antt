@@ -9,7 +9,7 @@ use Rattle.lines.specs.Machine.{Reading, stemRoom, lineRoom, start, read
 use Rattle.lines.specs.Calls.{Calls}
 use Rattle.lines.specs.Facts.{Without, shown}
 use Rattle.lines.specs.Examples.{examples}
-use Rattle.stemmer.specs.Entries.{codeOf, stemBytes, stemAnswer}
+use Rattle.stemmer.specs.Entries.{mostBytes, codeOf, stemBytes, stemAnswer}
 use Rattle.lines.proofs.Questions.{no-question}
 use Rattle.lines.proofs.Room.{never-three}
 use Rattle.lines.proofs.Answering.{line-answer, line-long}
@@ -44,7 +44,7 @@ pub main-answer : (w : List ℕ) → answerLine w ≡ shown (stemAnswer w stemRo
 main-answer = line-answer
 
 -- a line over 255 bytes is answered by `?1`
-pub main-overlong : (w : List ℕ) → 255 < length w → answerLine w ≡ refusal 1 ++ lineFeed ∷ []
+pub main-overlong : (w : List ℕ) → mostBytes < length w → answerLine w ≡ refusal 1 ++ lineFeed ∷ []
 main-overlong = line-long
 
 -- no stem holds `?`, so that a line with `?` is a refusal

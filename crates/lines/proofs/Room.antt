@@ -8,7 +8,6 @@ use native.Mathlib.Omega.{arith}
 use lib.Dec.{ltb}
 use lib.ListN.{length, getD, length-append}
 use borrow.Author.Tests.{lt-ltb, le-ltb}
-use Rattle.definition.specs.Letters.{hamza, alef, waw, yeh}
 use Rattle.definition.specs.Words.{Word, pick}
 use Rattle.definition.specs.Tables.{«A_4»}
 use Rattle.definition.specs.Search.{rowAt}

@@ -6,6 +6,7 @@ use Prim.Native.Nat.{ℕ, suc, _-_, _≤_}
 use lib.Dec.{eqb, leb, ltb}
 use lib.ListN.{length, take, drop}
 use Rattle.definition.specs.Words.{pick, both, same}
+use Rattle.stemmer.specs.Entries.{enoughRoom}
 use Rattle.lines.specs.Plain.{lineFeed, mark, answerLine}
 use Rattle.lines.specs.declared.State.{State}
 
@@ -15,7 +16,7 @@ keptBytes = 256
 
 -- the room that the stem entry is lent
 abbrev pub stemRoom : ℕ
-stemRoom = 340
+stemRoom = enoughRoom
 
 -- the most bytes that a line of the output has: the stem's room and LF
 abbrev pub lineRoom : ℕ

@@ -1,4 +1,5 @@
 // The line program's work on slices: an input goes in piece by piece, and lines come out.
+use stemmer::ROOM;
 ghost use mathlib.Core.Path.{_≡_};
 ghost use mathlib.Core.List.{List, _∷_, _++_};
 ghost use Prim.Native.Nat.{ℕ, _≤_};
@@ -11,8 +12,6 @@ pub const KEPT_BYTES: usize = 256;
 
 // The most bytes that a line of the output has.
 pub const LINE_ROOM: usize = 341;
-
-const STEM_ROOM: usize = 340;
 
 // How far the input is read: whether its opening mark may still come, and how many bytes of the line that is being read
 // stand in front of the line buffer. What stands behind them in the buffer has no meaning, and no contract says what it is.
@@ -44,13 +43,13 @@ fn refuse(out: &mut [u8], digit: u8)
     out[2] = b'\n';
 }
 
-// The line that answers a word, in front of out. Lent 340 bytes, `stem` never answers that it has no room.
+// The line that answers a word, in front of out. Lent ROOM bytes, `stem` never answers that it has no room.
 fn emit(word: &[u8], out: &mut [u8]) -> usize
     requires { ⌜ lineRoom ≤ length (now out) ⌝ }
     ensures { λ r. ⌜ r ≡ length (answerLine (now (word .entry))) ⌝ }
     ensures { λ r. ⌜ now (out .exit) ≡ answerLine (now (word .entry)) ++ drop r (now (out .entry)) ⌝ }
 {
-    let a = stemmer::stem(word, &mut out[..STEM_ROOM]);
+    let a = stemmer::stem(word, &mut out[..ROOM]);
     match a {
         stemmer::Answer::Done(n) => {
             out[n] = b'\n';

@@ -1,4 +1,4 @@
--- UTF-8 as the Unicode standard has it: the scalar values (D76), the encoding of one (Table 3-6), the well-formed byte sequences (Table 3-7).
+-- UTF-8 as the Unicode Standard, Version 14.0, has it in chapter 3: the scalar values (D76), the encoding of one (Table 3-6), the well-formed byte sequences (Table 3-7).
 -- A letter is a ℕ, a text a list of them, and bytes are a list of ℕ. Assumes nothing: these are definitions.
 use Prim.Native.Nat.{ℕ, zero, suc, _+_, _-_, _*_, _/_, _%_, _≤_, _<_}
 use mathlib.Core.List.{List, [], _∷_, _++_}

@@ -7,7 +7,7 @@ use lib.ListN.{length, take, drop, set, length-append, take-append-drop}
 use lib.Seq.{length-take-le, length-front}
 use borrow.Author.Needs.{needs}
 use Rattle.stemmer.specs.declared.Answer.{Answer}
-use Rattle.stemmer.specs.declared.Answer.the-variants.{Done, TooLong, NotWellFormed, NoRoom}
+use Rattle.stemmer.specs.declared.Answer.the-variants.{Done, TooLong, NotWellFormed}
 use Rattle.stemmer.specs.Entries.{codeOf, stemBytes, stemAnswer, outAfter}
 use Rattle.stemmer.proofs.Answers.{done-fits, done-count}
 use Rattle.lines.specs.Plain.{lineFeed, refusal, answerLine}

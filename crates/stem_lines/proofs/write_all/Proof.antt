@@ -1,9 +1,7 @@
 -- `stem_lines::write_all` meets its contract: each turn leaves fewer bytes. Assumes what the toolchain declares of `write`, `nanosleep` and errno.
 use Prim.Native.Nat.{_-_, _≤_}
-use native.Mathlib.Omega.{arith}
 use lib.ListN.{length}
 use borrow.Author.Needs.{needs}
-use Rattle.lines.proofs.Lists.{rest-length}
 use Rattle.stem_lines.proofs.write_all.Statement.{statement}
 use Rattle.stem_lines.proofs.write_all.Tie as tie
 
