@@ -1,9 +1,10 @@
 -- Item 5 of document 01: the last letter, and the other letters. Its halves are those of r_Normalize_post in the Rust, rust-stemmers 1.2.0.
 use Prim.Native.Nat.{ℕ}
-use mathlib.Core.List.{[], _∷_, map}
+use mathlib.Core.List.{List, [], _∷_, map}
 use lib.Dec.{eqb, leb}
 use Rattle.definition.specs.Letters.{hamza, alefMadda, alefHamzaAbove, wawHamza, alefHamzaBelow, yehHamza, alef, waw, yeh}
 use Rattle.definition.specs.Words.{Word, pick, both}
+use Rattle.definition.specs.Tries.{allOf}
 
 -- 0622 to 0626 become 0621
 unfoldable pub last : ℕ → ℕ
@@ -28,5 +29,9 @@ lastLetter (c ∷ d ∷ w) = c ∷ lastLetter (d ∷ w)
 abbrev pub allLetters : Word → Word
 allLetters w = map other w
 
+-- the first half, then the second
+abbrev pub finishInTurn : List (Word → Word)
+finishInTurn = lastLetter ∷ allLetters ∷ []
+
 unfoldable pub finish : Word → Word
-finish w = allLetters (lastLetter w)
+finish w = allOf finishInTurn w

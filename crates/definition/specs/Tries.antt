@@ -63,3 +63,8 @@ module _ {A : Type 0} where
   -- Snowball's `try`: whether it succeeds or not
   unfoldable pub attempt : Step A → Step A
   attempt f a = done (after (f a))
+
+  -- changes, which never fail, one after the other
+  abbrev pub allOf : List (A → A) → A → A
+  allOf [] a = a
+  allOf (f ∷ fs) a = allOf fs (f a)

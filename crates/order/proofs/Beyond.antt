@@ -5,12 +5,13 @@ use Prim.Native.Nat.{ℕ, zero, suc, _≤_}
 use native.Mathlib.Omega.{arith}
 use lib.ListN.{length}
 use Rattle.definition.specs.Words.{Word}
-use Rattle.definition.specs.Tries.{Step, Try, after, inTurn, firstOf}
+use Rattle.definition.specs.Tries.{Step, Try, after, inTurn, firstOf, allOf}
 use Rattle.definition.specs.Kind.{Kind, OPEN, kind}
 use Rattle.definition.specs.Normal.{normalise}
 use Rattle.definition.specs.Endings.{Cutting, afterVerbStep1, verbStep1InTurn, verbChoices, afterNounStep1a, nounStep1aInTurn, afterNounStep1b, nounStep1bInTurn, nounChoices, nounInTurn}
 use Rattle.definition.specs.Fronts.{Fronting, text, prefixStep3VerbInTurn, prefixStep3Choices, prefixesInTurn, started}
-use Rattle.order.specs.Order.{Place, way, ends, verbs, verbTurns, verbSequel, nounTurns, nouns, step1aTurns, step1aSequel, step1bTurns, step1bSequel, fronts, thirds, verbFronts, finishing, nowhere, pair, unexchanged, exchanged, ordered, allOf, allEndings, fromHere, halves, items, verbBy, nounBy, endingsBy, prefixStepsBy, finishBy, stemBy}
+use Rattle.definition.specs.Finish.{finishInTurn}
+use Rattle.order.specs.Order.{Place, way, ends, verbs, verbTurns, verbSequel, nounTurns, nouns, step1aTurns, step1aSequel, step1bTurns, step1bSequel, fronts, thirds, verbFronts, finishing, nowhere, pair, unexchanged, exchanged, ordered, allEndings, fromHere, items, verbBy, nounBy, endingsBy, prefixStepsBy, finishBy, stemBy}
 use Rattle.order.specs.Settled.{Unshown, entries}
 use Rattle.order.proofs.Kept.{by-endings, by-fronts}
 use Rattle.order.proofs.Same.{same}
@@ -62,7 +63,7 @@ abbrev fourth : Kind → Word → Word
 fourth k n = text (after (prefixStepsBy unexchanged k (started n)))
 
 pub no-other : (p : Place) (i : ℕ) → entries p ≤ suc i → Unshown (pair p i)
-unfolding stemBy ordered allOf endingsBy verbBy nounBy prefixStepsBy finishBy
+unfolding stemBy ordered endingsBy verbBy nounBy prefixStepsBy finishBy
 no-other way i h = λ w. (λ j. allOf (beyond i (items third fourth (finishBy unexchanged)) h j) (record { is = OPEN; word = w }) .word) ∙ same w
 no-other ends i h = by-endings (pair ends i)
     (λ k n j. firstOf (beyond i (allEndings k (verbBy unexchanged) (nounBy unexchanged k)) h j) (uncut n)) (λ w. refl)
@@ -90,5 +91,5 @@ no-other thirds i h = by-fronts (pair thirds i)
     (λ k n. texts (λ j. fronts-with n (firstOf (map fromHere (beyond i (prefixStep3Choices k (inTurn prefixStep3VerbInTurn)) h j))))) (λ w. refl)
 no-other verbFronts i h = by-fronts (pair verbFronts i)
     (λ k n. texts (λ j. fronts-with n (firstOf (step3-with k (inTurn (beyond i prefixStep3VerbInTurn h j)))))) (λ w. refl)
-no-other finishing i h = λ w. (λ j. allOf (beyond i halves h j) (fourth (kind w) (third (kind w) (normalise w)))) ∙ same w
+no-other finishing i h = λ w. (λ j. allOf (beyond i finishInTurn h j) (fourth (kind w) (third (kind w) (normalise w)))) ∙ same w
 no-other nowhere i h = same

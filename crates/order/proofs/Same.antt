@@ -13,7 +13,7 @@ use Rattle.definition.specs.Finish.{finish}
 use Rattle.definition.specs.Stem.{cutting, fronting, stemOf, stem}
 use Rattle.definition.proofs.Match.{by}
 use Rattle.definition.proofs.Stays.{maqsura-stays}
-use Rattle.order.specs.Order.{unexchanged, ordered, allOf, fromHere, backIfFailed, maqsura, verbBy, nounBy, endingsBy, prefixStepsBy, finishBy, stemBy}
+use Rattle.order.specs.Order.{unexchanged, ordered, fromHere, backIfFailed, maqsura, verbBy, nounBy, endingsBy, prefixStepsBy, finishBy, stemBy}
 use Rattle.order.proofs.Exchange.{Clean, first-fails, first-succeeds}
 use Rattle.order.proofs.Fronts.{third-from, bare, verb-fronts, apply-clean, here-fails}
 
@@ -66,11 +66,11 @@ fronts-same k n =
 
 -- ---- item 5
 finish-same : (w : Word) → finishBy unexchanged w ≡ finish w
-unfolding finishBy ordered allOf finish
+unfolding finishBy ordered finish
 finish-same w = refl
 
 pub same : (w : Word) → stemBy unexchanged w ≡ stem w
-unfolding stemBy ordered allOf stem stemOf fronting
+unfolding stemBy ordered stem stemOf fronting
 same w =
     finish-same _
     ∙ ap finish (fronts-same (kind w) (after (endingsBy unexchanged (kind w) (normalise w)) .text)

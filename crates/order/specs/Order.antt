@@ -5,12 +5,12 @@ use lib.Dec.{eqb}
 use lib.ListN.{length}
 use Rattle.definition.specs.Letters.{alefMaksura}
 use Rattle.definition.specs.Words.{Word, pick, endsWith}
-use Rattle.definition.specs.Tries.{Step, Try, done, failed, after, inTurn, firstOf}
+use Rattle.definition.specs.Tries.{Step, Try, done, failed, after, inTurn, firstOf, allOf}
 use Rattle.definition.specs.Kind.{Kind, OPEN, kind}
 use Rattle.definition.specs.Normal.{normalise}
 use Rattle.definition.specs.Endings.{Cutting, afterVerbStep1, verbStep1InTurn, verbChoices, afterNounStep1a, nounStep1aInTurn, afterNounStep1b, nounStep1bInTurn, nounChoices, nounInTurn, endingChoices, suffixAllAlefMaqsura}
 use Rattle.definition.specs.Fronts.{Fronting, text, prefixStep3VerbInTurn, prefixStep3Choices, prefixesInTurn, started}
-use Rattle.definition.specs.Finish.{lastLetter, allLetters}
+use Rattle.definition.specs.Finish.{finishInTurn}
 
 -- The places where steps stand in an order: they follow each other, or the first that succeeds is taken.
 pub data Place : Type 0 where
@@ -76,11 +76,6 @@ module _ {A : Type 0} where
   unfoldable pub ordered : Pair → Place → List A → List A
   ordered x p fs = pick (eqb (placeNumber (x .place)) (placeNumber p)) (exchanged (x .first) fs) fs
 
-  -- changes one after the other
-  unfoldable pub allOf : List (A → A) → A → A
-  allOf [] a = a
-  allOf (f ∷ fs) a = allOf fs (f a)
-
 -- the last 0649 of item 3: it succeeds where the last letter is 0649
 unfoldable pub maqsura : Step Cutting
 maqsura v = pick (endsWith (v .text) (alefMaksura ∷ [])) (done (record { text = suffixAllAlefMaqsura (v .text); cuts = v .cuts })) (failed v)
@@ -99,10 +94,6 @@ backIfFailed (failed f) = failed (back f)
 
 abbrev pub fromHere : Step Fronting → Step Fronting
 fromHere g f = backIfFailed (g f)
-
--- the two halves of item 5
-abbrev pub halves : List (Word → Word)
-halves = lastLetter ∷ allLetters ∷ []
 
 -- a word on its way, with the kind that it has so far
 pub record Under : Type 0 where
@@ -164,7 +155,7 @@ module _ (x : Pair) where
 
   -- ---- item 5
   unfoldable pub finishBy : Word → Word
-  finishBy w = allOf (ordered x finishing halves) w
+  finishBy w = allOf (ordered x finishing finishInTurn) w
 
   -- ---- a word's way
   unfoldable pub stemBy : Word → Word

@@ -9,8 +9,9 @@ use Rattle.definition.specs.Tries.{nothing}
 use Rattle.definition.specs.Kind.{Kind, OPEN}
 use Rattle.definition.specs.Endings.{afterVerbStep1, verbStep1InTurn, verbChoices, afterNounStep1a, nounStep1aInTurn, afterNounStep1b, nounStep1bInTurn, nounChoices, nounInTurn}
 use Rattle.definition.specs.Fronts.{prefixStep3VerbInTurn, prefixStep3Choices, prefixesInTurn}
+use Rattle.definition.specs.Finish.{finishInTurn}
 use Rattle.definition.specs.Stem.{stem}
-use Rattle.order.specs.Order.{Place, way, ends, verbs, verbTurns, verbSequel, nounTurns, nouns, step1aTurns, step1aSequel, step1bTurns, step1bSequel, fronts, thirds, verbFronts, finishing, nowhere, Pair, pair, allEndings, halves, items, stemBy}
+use Rattle.order.specs.Order.{Place, way, ends, verbs, verbTurns, verbSequel, nounTurns, nouns, step1aTurns, step1aSequel, step1bTurns, step1bSequel, fronts, thirds, verbFronts, finishing, nowhere, Pair, pair, allEndings, items, stemBy}
 
 -- no word's stem changes
 abbrev pub Unshown : Pair → Type 0
@@ -115,7 +116,7 @@ entries step1bSequel = length afterNounStep1b
 entries fronts = length (prefixesInTurn nothing)
 entries thirds = length (prefixStep3Choices OPEN nothing)
 entries verbFronts = length prefixStep3VerbInTurn
-entries finishing = length halves
+entries finishing = length finishInTurn
 entries nowhere = 0
 
 -- the first n pairs of a place from its pair i on
