@@ -4,7 +4,7 @@ use mathlib.Core.Bool.{true, false, false≢true}
 use mathlib.Core.List.{[], _∷_}
 use lib.ListN.{length}
 use Rattle.definition.specs.Tries.{Try, done, failed, Step, after, andThen, ifFailed, nothing, _thenTry_, attempt, again, firstOf}
-use Rattle.definition.specs.Endings.{Cutting, cut, verbStep1, verbStep2a, verbStep2b, verbStep2c, nounStep1a, nounStep1b, nounStep2a, nounStep2b, nounStep2c1, nounStep3, verb, noun, endings, suffixAllAlefMaqsura, maqsuraIfFailed}
+use Rattle.definition.specs.Endings.{Cutting, uncut, cut, verbStep1, verbStep2a, verbStep2b, verbStep2c, nounStep1a, nounStep1b, nounStep2a, nounStep2b, nounStep2c1, nounStep3, verb, noun, endings, suffixAllAlefMaqsura, maqsuraIfFailed}
 use Rattle.definition.specs.Words.{Word}
 use Rattle.definition.specs.Fronts.{Fronting, prefixStep1, prefixStep2, prefixStep3aNoun, prefixStep3bNoun, prefixStep3Verb, prefixStep4Verb, apply, prefixSteps}
 use Rattle.definition.specs.Kind.{Kind, OPEN, DEFINED, ifOpen}
@@ -15,7 +15,7 @@ use Rattle.arabic.specs.declared.tried.Tried.{Tried}
 use Rattle.arabic.specs.Tried.{Answers}
 use Rattle.arabic.specs.Endings.{atEnd, Ready, Gives, Given}
 use Rattle.arabic.specs.Fronts.{ReadyFront, GivenFront}
-use Rattle.arabic.specs.Nests.{afterStep1, afterStep1a, afterStep1b, byStep1a, byStep1b, nounFirst, verbSteps, uncut}
+use Rattle.arabic.specs.Nests.{afterStep1, afterStep1a, afterStep1b, byStep1a, byStep1b, nounFirst, verbSteps}
 
 pub ready : (t : Tried) → Given t → Ready (t .env)
 ready t g = (after (g .0), g .1 .env)

@@ -1,8 +1,6 @@
 -- Parts of items 3 and 4 that have functions of their own, put together from the lists of the definition.
-use mathlib.Core.List.{[]}
 use Rattle.definition.specs.Tries.{Step, inTurn, firstOf}
 use Rattle.definition.specs.Kind.{Kind, ifOpen}
-use Rattle.definition.specs.Words.{Word}
 use Rattle.definition.specs.Fronts.{Fronting, prefixStep3VerbInTurn}
 use Rattle.definition.specs.Endings.{Cutting, afterVerbStep1, afterNounStep1a, nounStep1aInTurn, afterNounStep1b, nounStep1bInTurn, nounChoices}
 
@@ -31,7 +29,3 @@ nounFirst k = firstOf (nounChoices k (inTurn (nounStep1aInTurn afterStep1a)) byS
 -- the verb's part of item 4
 unfoldable pub verbSteps : Step Fronting
 verbSteps = inTurn prefixStep3VerbInTurn
-
--- the start of item 3
-abbrev pub uncut : Word → Cutting
-uncut w = record { text = w; cuts = [] }

@@ -14,7 +14,7 @@ use Rattle.definition.specs.Tables.{Row, «A_10», «A_11», «A_12», �
 use Rattle.definition.specs.Search.{rowAt, leastLetters, taken}
 use Rattle.definition.specs.Tries.{after, nothing}
 use Rattle.definition.specs.Kind.{Kind}
-use Rattle.definition.specs.Endings.{SuffixStep, verbStep1, verbStep2a, verbStep2b, verbStep2c, nounStep1a, nounStep1b, nounStep2a, nounStep2b, nounStep2c1, nounStep2c2, nounStep3, suffix, Cut, Cutting, ending, joined, cutOff, cutBy, cut, verb, noun, endings}
+use Rattle.definition.specs.Endings.{SuffixStep, verbStep1, verbStep2a, verbStep2b, verbStep2c, nounStep1a, nounStep1b, nounStep2a, nounStep2b, nounStep2c1, nounStep2c2, nounStep3, suffix, Cut, Cutting, ending, joined, cutOff, cutBy, cut, verb, noun, endings, uncut}
 use Rattle.definition.specs.Stem.{without}
 use Rattle.definition.specs.Demand3.{CutFrom, CutInTurn}
 use Rattle.definition.proofs.Match.{both-0, both-1, ends-split}
@@ -68,10 +68,10 @@ module _ (P : Cutting → Type 0) (cut-keeps : (s : SuffixStep) → Keeps P (cut
         (cut-keeps verbStep2b, (cut-keeps verbStep2a, tt)),
       ) v
 
-  endings-keep : (k : Kind) (n : Word) → P (record { text = n; cuts = [] }) → P (after (endings k n))
+  endings-keep : (k : Kind) (n : Word) → P (uncut n) → P (after (endings k n))
   unfolding endings
   endings-keep k n p = ends-after P (endings k n)
-      (keeps-first P _ (keeps-if P k verb verb-keeps, (noun-keeps P (λ s t. cut-keeps s) k, tt)) (record { text = n; cuts = [] }) p)
+      (keeps-first P _ (keeps-if P k verb verb-keeps, (noun-keeps P (λ s t. cut-keeps s) k, tt)) (uncut n) p)
 
 -- ---- every row of an ending has a letter, and its guard is two letters more at least
 abbrev fits : List ℕ → Row → Bool
@@ -162,7 +162,7 @@ module _ (n : Word) where
       go none q = k
       go (some r) q = cut-kept s v r q k
 
-  kept-start : Kept n (record { text = n; cuts = [] })
+  kept-start : Kept n (uncut n)
   unfolding joined CutBehind
   kept-start = record { whole = sym (append-nil n); cut = tt; least = omega arith; fewer = omega arith }
 

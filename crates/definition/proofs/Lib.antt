@@ -18,6 +18,7 @@ pub mod NoonAlef
 pub mod FrontRows
 pub mod Fronting
 pub mod Lengths
+pub mod Leave
 pub mod Whole
 pub mod Changed
 pub mod OneChange

@@ -12,7 +12,7 @@ use Rattle.definition.specs.Tables.{«A_17», «A_18»}
 use Rattle.definition.specs.Search.{longer, longest, taken}
 use Rattle.definition.specs.Tries.{Try, nothing, _thenTry_, firstOf, again}
 use Rattle.definition.specs.Kind.{Kind, ifOpen}
-use Rattle.definition.specs.Endings.{SuffixStep, verbStep1, verbStep2a, verbStep2b, verbStep2c, nounStep1a, nounStep1b, nounStep2a, nounStep2b, nounStep2c1, nounStep2c2, nounStep3, suffix, Cutting, cutOff, cutBy, cut, afterVerbStep1, verb, noun, endings}
+use Rattle.definition.specs.Endings.{SuffixStep, verbStep1, verbStep2a, verbStep2b, verbStep2c, nounStep1a, nounStep1b, nounStep2a, nounStep2b, nounStep2c1, nounStep2c2, nounStep3, suffix, Cutting, cutOff, cutBy, cut, afterVerbStep1, verb, noun, endings, uncut}
 use Rattle.definition.specs.Stem.{cutting}
 use Rattle.definition.specs.Facts.{Idle, AllCuts, noonAlef, NotNoonAlef}
 use Rattle.definition.proofs.Found.{taken-some}
@@ -95,7 +95,7 @@ verb-spares w h =
 pub no-noon-alef : (k : Kind) (n : Word) → AllCuts NotNoonAlef (cutting k n .cuts)
 unfolding cutting endings
 no-noon-alef k n = ends-after Spared (endings k n)
-    (keeps-first Spared (ifOpen k verb ∷ noun k ∷ []) (keeps-if Spared k verb verb-spares, (noun-keeps Spared noun-cuts k, tt)) (record { text = n; cuts = [] }) tt)
+    (keeps-first Spared (ifOpen k verb ∷ noun k ∷ []) (keeps-if Spared k verb verb-spares, (noun-keeps Spared noun-cuts k, tt)) (uncut n) tt)
   where
     noun-cuts : (s : SuffixStep) → Nominal s → Keeps Spared (cut s)
     noun-cuts verbStep1 z = absurd z

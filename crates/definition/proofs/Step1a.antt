@@ -10,7 +10,7 @@ use Rattle.definition.specs.Tables.{Row, «A_10», «A_17», «A_18»}
 use Rattle.definition.specs.Search.{rowAt, longer, longest, leastLetters, taken}
 use Rattle.definition.specs.Tries.{Step, nothing, _thenTry_, inTurn, firstOf, again}
 use Rattle.definition.specs.Kind.{Kind, OPEN, DEFINED, ifOpen}
-use Rattle.definition.specs.Endings.{SuffixStep, verbStep1, verbStep2a, verbStep2b, verbStep2c, nounStep1a, nounStep1b, nounStep2a, nounStep2b, nounStep2c1, nounStep2c2, nounStep3, suffix, Cutting, cutOff, cutBy, cut, afterVerbStep1, afterNounStep1b, nounStep1bInTurn, verb, noun, endings}
+use Rattle.definition.specs.Endings.{SuffixStep, verbStep1, verbStep2a, verbStep2b, verbStep2c, nounStep1a, nounStep1b, nounStep2a, nounStep2b, nounStep2c1, nounStep2c2, nounStep3, suffix, Cutting, cutOff, cutBy, cut, afterVerbStep1, afterNounStep1b, nounStep1bInTurn, verb, noun, endings, uncut}
 use Rattle.definition.specs.Stem.{cutting}
 use Rattle.definition.specs.Facts.{Idle, AllSteps, notStep1a}
 use Rattle.definition.proofs.Match.{by}
@@ -144,7 +144,7 @@ defined-noun =
 pub no-step1a : (k : Kind) (n : Word) → AllSteps notStep1a (cutting k n .cuts)
 unfolding cutting endings
 no-step1a OPEN n =
-    let w : Cutting = record { text = n; cuts = [] } in
+    let w : Cutting = uncut n in
     ends-after Spared (endings OPEN n)
     (does-or (Here w tt) Spared Spared (Untaken w tt) verb (noun OPEN ∷ []) (λ v q. subst (λ (x : Cutting). Ends Spared (Untaken w tt) (verb x)) (sym q) (verb-ends w tt))
     (does-or (Untaken w tt) Spared Spared Spared (noun OPEN) [] (λ v u. subst (λ (x : Cutting). Ends Spared Spared (noun OPEN x)) (sym (u .same)) (open-noun w tt (u .one) (u .two)))
@@ -152,4 +152,4 @@ no-step1a OPEN n =
     w refl)
 no-step1a DEFINED n =
     ends-after Spared (endings DEFINED n)
-    (keeps-first Spared (ifOpen DEFINED verb ∷ noun DEFINED ∷ []) ((λ v h. h), (defined-noun, tt)) (record { text = n; cuts = [] }) tt)
+    (keeps-first Spared (ifOpen DEFINED verb ∷ noun DEFINED ∷ []) ((λ v h. h), (defined-noun, tt)) (uncut n) tt)

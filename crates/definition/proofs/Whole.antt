@@ -1,17 +1,18 @@
 -- Endings and fronts together, for a normalised word n of kind k. Assumes nothing.
-use mathlib.Core.Path.{_≡_, sym, ap, _∙_}
+use mathlib.Core.Path.{_≡_, sym, ap, _∙_, subst}
 use mathlib.Core.List.{_++_, append-assoc}
 use Prim.Native.Nat.{ℕ, _+_, _≤_, min}
 use native.Mathlib.Omega.{arith}
 use lib.ListN.{length, drop, length-append}
 use Rattle.definition.specs.Words.{Word}
 use Rattle.definition.specs.Kind.{Kind}
-use Rattle.definition.specs.Endings.{joined, endings, maqsuraIfFailed}
-use Rattle.definition.specs.Fronts.{Fronting}
+use Rattle.definition.specs.Endings.{joined, endings, endingsLeave, maqsuraIfFailed}
+use Rattle.definition.specs.Fronts.{Fronting, fronts}
 use Rattle.definition.specs.Finish.{finish}
 use Rattle.definition.specs.Stem.{cutting, fronting, stemOf, without}
 use Rattle.definition.proofs.Cutting.{Kept, endings-kept, without-is}
 use Rattle.definition.proofs.Fronting.{Fronted, fronts-done, fourth}
+use Rattle.definition.proofs.Leave.{endings-leave}
 use Rattle.definition.proofs.Lengths.{maqsura-if-length, finish-length, fourth-length, head-short, maqsura-if-split}
 
 module _ (k : Kind) (n : Word) where
@@ -27,7 +28,7 @@ module _ (k : Kind) (n : Word) where
 
   pub fronted : Fronted (maqsuraIfFailed (endings k n) (cutting k n .text)) (fronting k n)
   unfolding fronting
-  fronted = fronts-done (maqsuraIfFailed (endings k n) left) k
+  fronted = subst (λ (x : Word). Fronted x (fronts k (endingsLeave k n))) (endings-leave k n) (fronts-done (endingsLeave k n) k)
 
   -- the run of the normalised word
   abbrev pub runOf : Word

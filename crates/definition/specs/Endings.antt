@@ -8,7 +8,7 @@ use Rattle.definition.specs.Letters.{alefMaksura, yeh}
 use Rattle.definition.specs.Words.{Word, pick, endsWith}
 use Rattle.definition.specs.Tables.{«A_10», «A_11», «A_12», «A_13», «A_14», «A_15», «A_16», «A_17», «A_18», «A_19», «A_20»}
 use Rattle.definition.specs.Search.{Rule, rule, rowAt, taken}
-use Rattle.definition.specs.Tries.{Step, Try, done, failed, nothing, _thenTry_, inTurn, firstOf, again}
+use Rattle.definition.specs.Tries.{Step, Try, done, failed, after, nothing, _thenTry_, inTurn, firstOf, again}
 use Rattle.definition.specs.Kind.{Kind, ifOpen}
 
 -- r_Suffix_Verb_Step1 to r_Suffix_Verb_Step2c, r_Suffix_Noun_Step1a to r_Suffix_Noun_Step3
@@ -47,6 +47,10 @@ joined (c ∷ cs) = ending c ++ joined cs
 pub record Cutting : Type 0 where
   pub text : Word
   pub cuts : List Cut
+
+-- nothing is cut yet
+abbrev pub uncut : Word → Cutting
+uncut n = record { text = n; cuts = [] }
 
 unfoldable pub cutOff : Cutting → Cut → Cutting
 cutOff v c = record { text = take (length (v .text) - length (ending c)) (v .text); cuts = c ∷ v .cuts }
@@ -116,7 +120,7 @@ endingChoices k byVerb byNoun = ifOpen k byVerb ∷ byNoun ∷ []
 
 -- it fails where the noun's Step3 fails
 unfoldable pub endings : Kind → Word → Try Cutting
-endings k n = firstOf (endingChoices k verb (noun k)) (record { text = n; cuts = [] })
+endings k n = firstOf (endingChoices k verb (noun k)) (uncut n)
 
 -- r_Suffix_All_alef_maqsura: a last 0649 becomes 064A
 unfoldable pub suffixAllAlefMaqsura : Word → Word
@@ -124,7 +128,19 @@ suffixAllAlefMaqsura [] = []
 suffixAllAlefMaqsura (c ∷ []) = pick (eqb c alefMaksura) yeh c ∷ []
 suffixAllAlefMaqsura (c ∷ d ∷ w) = c ∷ suffixAllAlefMaqsura (d ∷ w)
 
--- if Step3 fails
+-- as a step: it succeeds where the last letter is 0649
+abbrev pub maqsura : Step Cutting
+maqsura v = pick (endsWith (v .text) (alefMaksura ∷ [])) (done (record { text = suffixAllAlefMaqsura (v .text); cuts = v .cuts })) (failed v)
+
+-- verb, noun, and behind them the last 0649
+abbrev pub allEndingChoices : Kind → Step Cutting → Step Cutting → List (Step Cutting)
+allEndingChoices k byVerb byNoun = endingChoices k byVerb byNoun ++ (maqsura ∷ [])
+
+-- the letters that item 3 leaves
+abbrev pub endingsLeave : Kind → Word → Word
+endingsLeave k n = after (firstOf (allEndingChoices k verb (noun k)) (uncut n)) .text
+
+-- The same in other words: the last 0649 changes if Step3 fails, `endings` being t and w what it leaves.
 unfoldable pub maqsuraIfFailed : Try Cutting → Word → Word
 maqsuraIfFailed (done v) w = w
 maqsuraIfFailed (failed v) w = suffixAllAlefMaqsura w

@@ -6,7 +6,7 @@ use Rattle.definition.specs.Words.{Word}
 use Rattle.definition.specs.Tries.{after}
 use Rattle.definition.specs.Kind.{Kind, kind}
 use Rattle.definition.specs.Normal.{normalise}
-use Rattle.definition.specs.Endings.{Cut, Cutting, joined, endings, maqsuraIfFailed}
+use Rattle.definition.specs.Endings.{Cut, Cutting, joined, endings, endingsLeave}
 use Rattle.definition.specs.Fronts.{Applied, Fronting, text, fronts}
 use Rattle.definition.specs.Finish.{finish}
 
@@ -15,7 +15,7 @@ unfoldable pub cutting : Kind → Word → Cutting
 cutting k n = after (endings k n)
 
 unfoldable pub fronting : Kind → Word → Fronting
-fronting k n = fronts k (maqsuraIfFailed (endings k n) (cutting k n .text))
+fronting k n = fronts k (endingsLeave k n)
 
 unfoldable pub stemOf : Kind → Word → Word
 stemOf k n = finish (text (fronting k n))

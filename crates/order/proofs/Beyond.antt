@@ -8,10 +8,10 @@ use Rattle.definition.specs.Words.{Word}
 use Rattle.definition.specs.Tries.{Step, Try, after, inTurn, firstOf, allOf}
 use Rattle.definition.specs.Kind.{Kind, OPEN, kind}
 use Rattle.definition.specs.Normal.{normalise}
-use Rattle.definition.specs.Endings.{Cutting, afterVerbStep1, verbStep1InTurn, verbChoices, afterNounStep1a, nounStep1aInTurn, afterNounStep1b, nounStep1bInTurn, nounChoices, nounInTurn}
+use Rattle.definition.specs.Endings.{Cutting, uncut, afterVerbStep1, verbStep1InTurn, verbChoices, afterNounStep1a, nounStep1aInTurn, afterNounStep1b, nounStep1bInTurn, nounChoices, nounInTurn, allEndingChoices}
 use Rattle.definition.specs.Fronts.{Fronting, text, prefixStep3VerbInTurn, prefixStep3Choices, prefixesInTurn, started}
 use Rattle.definition.specs.Finish.{finishInTurn}
-use Rattle.order.specs.Order.{Place, way, ends, verbs, verbTurns, verbSequel, nounTurns, nouns, step1aTurns, step1aSequel, step1bTurns, step1bSequel, fronts, thirds, verbFronts, finishing, nowhere, pair, unexchanged, exchanged, ordered, allEndings, fromHere, items, verbBy, nounBy, endingsBy, prefixStepsBy, finishBy, stemBy}
+use Rattle.order.specs.Order.{Place, way, ends, verbs, verbTurns, verbSequel, nounTurns, nouns, step1aTurns, step1aSequel, step1bTurns, step1bSequel, fronts, thirds, verbFronts, finishing, nowhere, pair, unexchanged, exchanged, ordered, fromHere, items, verbBy, nounBy, endingsBy, prefixStepsBy, finishBy, stemBy}
 use Rattle.order.specs.Settled.{Unshown, entries}
 use Rattle.order.proofs.Kept.{by-endings, by-fronts}
 use Rattle.order.proofs.Same.{same}
@@ -24,9 +24,6 @@ beyond zero (f ∷ g ∷ fs) h = absurd (omega arith)
 beyond (suc i) (f ∷ g ∷ fs) h = ap (λ (x : List _). f ∷ x) (beyond i (g ∷ fs) (omega arith))
 
 -- ---- item 3, put together from the definition's lists
-abbrev uncut : Word → Cutting
-uncut n = record { text = n; cuts = [] }
-
 abbrev verb-with : (ℕ → Step Cutting) → Step Cutting
 verb-with g v = firstOf (verbChoices (g (length (v .text)))) v
 
@@ -40,10 +37,10 @@ abbrev step1b : Step Cutting
 step1b = inTurn (nounStep1bInTurn (firstOf afterNounStep1b))
 
 abbrev with-verb : Kind → Word → Step Cutting → Try Cutting
-with-verb k n f = firstOf (allEndings k f (nounBy unexchanged k)) (uncut n)
+with-verb k n f = firstOf (allEndingChoices k f (nounBy unexchanged k)) (uncut n)
 
 abbrev with-noun : Kind → Word → Step Cutting → Try Cutting
-with-noun k n f = firstOf (allEndings k (verbBy unexchanged) f) (uncut n)
+with-noun k n f = firstOf (allEndingChoices k (verbBy unexchanged) f) (uncut n)
 
 -- ---- item 4
 abbrev step3-with : Kind → Step Fronting → List (Step Fronting)
@@ -66,7 +63,7 @@ pub no-other : (p : Place) (i : ℕ) → entries p ≤ suc i → Unshown (pair p
 unfolding stemBy ordered endingsBy verbBy nounBy prefixStepsBy finishBy
 no-other way i h = λ w. (λ j. allOf (beyond i (items third fourth (finishBy unexchanged)) h j) (record { is = OPEN; word = w }) .word) ∙ same w
 no-other ends i h = by-endings (pair ends i)
-    (λ k n j. firstOf (beyond i (allEndings k (verbBy unexchanged) (nounBy unexchanged k)) h j) (uncut n)) (λ w. refl)
+    (λ k n j. firstOf (beyond i (allEndingChoices k (verbBy unexchanged) (nounBy unexchanged k)) h j) (uncut n)) (λ w. refl)
 no-other verbs i h = by-endings (pair verbs i)
     (λ k n j. with-verb k n (λ (v : Cutting). firstOf (beyond i (verbChoices (inTurn (verbStep1InTurn (length (v .text)) (firstOf afterVerbStep1)))) h j) v)) (λ w. refl)
 no-other verbTurns i h = by-endings (pair verbTurns i)

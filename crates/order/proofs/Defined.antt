@@ -15,12 +15,13 @@ use Rattle.definition.specs.Search.{rule, rowAt, longer, longest, taken}
 use Rattle.definition.specs.Tries.{Step, Try, done, failed, after, _thenTry_, inTurn, firstOf, attempt}
 use Rattle.definition.specs.Kind.{Kind, OPEN, DEFINED, kindBy, ifOpen, kind}
 use Rattle.definition.specs.Normal.{gives, listedFor, given, normal, normalise}
-use Rattle.definition.specs.Endings.{Cutting, endings, suffixAllAlefMaqsura, maqsuraIfFailed}
+use Rattle.definition.specs.Endings.{Cutting, endings, endingsLeave, suffixAllAlefMaqsura, maqsuraIfFailed}
 use Rattle.definition.specs.Fronts.{PrefixStep, prefixStep1, prefixStep2, prefixStep3aNoun, prefixStep3bNoun, prefix, notAt, at, Fronting, change, beginsWithAny, apply, prefixStep3VerbInTurn, prefixSteps, started, fronts}
 use Rattle.definition.specs.Stem.{cutting, fronting, applied}
 use Rattle.definition.proofs.Match.{clash, either, either-not, begins-split, begins-of}
 use Rattle.definition.proofs.Found.{taken-some, all-at}
 use Rattle.definition.proofs.Cutting.{endings-kept}
+use Rattle.definition.proofs.Leave.{endings-leave}
 use Rattle.order.specs.Defined.{Article, AllApplied}
 use Rattle.order.proofs.Exchange.{Fails, first-fails, first-succeeds}
 use Rattle.order.proofs.Fronts.{together, front-fits, any-begins, Takes, takes}
@@ -160,5 +161,5 @@ unfolding applied fronting cutting
 defined-fronts w e =
     let n : Word = normalise w in
     let k = endings-kept n (kind w) in
-    subst (λ (x : Kind). AllApplied Article (fronts x (maqsuraIfFailed (endings (kind w) n) (after (endings (kind w) n) .text)) .applied)) (sym e)
-    (opened-fronts _ (if-opened (endings (kind w) n) (after (endings (kind w) n) .text) (front-opened n _ _ (k .whole) (k .least) (normalise-opened w (defined-opened w e)))))
+    subst (λ (x : Kind). AllApplied Article (fronts x (endingsLeave (kind w) n) .applied)) (sym e)
+    (opened-fronts _ (subst Opened (sym (endings-leave (kind w) n)) (if-opened (endings (kind w) n) (after (endings (kind w) n) .text) (front-opened n _ _ (k .whole) (k .least) (normalise-opened w (defined-opened w e))))))

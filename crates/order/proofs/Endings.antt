@@ -10,10 +10,10 @@ use Rattle.definition.specs.Tables.{«A_10», «A_11», «A_12», «A_13», «A
 use Rattle.definition.specs.Search.{longer, longest}
 use Rattle.definition.specs.Tries.{Step, Try, done, failed, nothing, andThen, ifFailed, _thenTry_, inTurn, firstOf}
 use Rattle.definition.specs.Kind.{Kind, OPEN, DEFINED, ifOpen}
-use Rattle.definition.specs.Endings.{SuffixStep, verbStep1, verbStep2a, verbStep2b, verbStep2c, nounStep1a, nounStep1b, nounStep2a, nounStep2b, nounStep2c1, nounStep2c2, nounStep3, suffix, Cutting, cut, afterVerbStep1, verbStep1InTurn, verbChoices, verb, afterNounStep1a, nounStep1aInTurn, afterNounStep1b, nounStep1bInTurn, nounChoices, nounInTurn}
+use Rattle.definition.specs.Endings.{SuffixStep, verbStep1, verbStep2a, verbStep2b, verbStep2c, nounStep1a, nounStep1b, nounStep2a, nounStep2b, nounStep2c1, nounStep2c2, nounStep3, suffix, Cutting, uncut, cut, afterVerbStep1, verbStep1InTurn, verbChoices, verb, afterNounStep1a, nounStep1aInTurn, afterNounStep1b, nounStep1bInTurn, nounChoices, nounInTurn, maqsura, allEndingChoices}
 use Rattle.definition.proofs.Triples.{Ends}
 use Rattle.definition.proofs.Step1a.{coveredRow, covered-1a, idle-by, Spared, Untaken, verb-ends}
-use Rattle.order.specs.Order.{Pair, pair, verbs, verbSequel, nouns, step1aSequel, step1bSequel, unexchanged, exchanged, ordered, verbBy, nounBy, maqsura, allEndings, endingsBy}
+use Rattle.order.specs.Order.{Pair, pair, verbs, verbSequel, nouns, step1aSequel, step1bSequel, unexchanged, exchanged, ordered, verbBy, nounBy, endingsBy}
 use Rattle.order.proofs.Exchange.{Succeeds, Fails, Clean, first-fails, first-succeeds, one-fails, exchange, last-succeeds, or-succeeds, again-succeeds, then-fails, then-clean, open-clean, open-fails}
 use Rattle.order.proofs.Apart.{apart, cut-idle, cut-clean, one-idle}
 
@@ -51,7 +51,7 @@ turns-clean v =
 -- Step1 | Step2b
 pub verbs-0 : (k : Kind) (n : Word) → endingsBy (pair verbs 0) k n ≡ endingsBy unexchanged k n
 unfolding endingsBy verbBy nounBy ordered exchanged
-verbs-0 k n = λ i. firstOf (allEndings k (λ (v : Cutting). go v (one-idle verbStep1 verbStep2b apart-1-2b v) i) (nounBy unexchanged k)) (record { text = n; cuts = [] })
+verbs-0 k n = λ i. firstOf (allEndingChoices k (λ (v : Cutting). go v (one-idle verbStep1 verbStep2b apart-1-2b v) i) (nounBy unexchanged k)) (uncut n)
   where
     go : (v : Cutting) → Fails (cut verbStep1) v ⊎ Fails (cut verbStep2b) v → verbBy (pair verbs 0) v ≡ verbBy unexchanged v
     go v (inl p) = exchange (verb-turns v) (cut verbStep2b) _ v (turns-clean v) (cut-clean verbStep2b v) (inl (then-fails _ _ v (then-fails (cut verbStep1) _ v p)))
@@ -60,7 +60,7 @@ verbs-0 k n = λ i. firstOf (allEndings k (λ (v : Cutting). go v (one-idle verb
 -- behind Step1: Step2a | Step2c
 pub verbSequel-0 : (k : Kind) (n : Word) → endingsBy (pair verbSequel 0) k n ≡ endingsBy unexchanged k n
 unfolding endingsBy verbBy nounBy ordered exchanged
-verbSequel-0 k n = λ i. firstOf (allEndings k (go i) (nounBy unexchanged k)) (record { text = n; cuts = [] })
+verbSequel-0 k n = λ i. firstOf (allEndingChoices k (go i) (nounBy unexchanged k)) (uncut n)
   where
     go : verbBy (pair verbSequel 0) ≡ verbBy unexchanged
     go = λ i v. firstOf (verbChoices (inTurn (verbStep1InTurn (length (v .text)) (cuts-exchange verbStep2a verbStep2c apart-2a-2c (nothing ∷ []) i)))) v
@@ -81,7 +81,7 @@ sequel-succeeds = or-succeeds (cut nounStep2a) _ (or-succeeds (cut nounStep2b) _
 -- Step2c2 | Step1a
 pub nouns-0 : (k : Kind) (n : Word) → endingsBy (pair nouns 0) k n ≡ endingsBy unexchanged k n
 unfolding endingsBy verbBy nounBy ordered exchanged
-nouns-0 k n = λ i. firstOf (allEndings k (verbBy unexchanged) (inTurn (nounInTurn (λ (v : Cutting). go v (one-idle nounStep2c2 nounStep1a apart-2c2-1a v) i)))) (record { text = n; cuts = [] })
+nouns-0 k n = λ i. firstOf (allEndingChoices k (verbBy unexchanged) (inTurn (nounInTurn (λ (v : Cutting). go v (one-idle nounStep2c2 nounStep1a apart-2c2-1a v) i)))) (uncut n)
   where
     others : List (Step Cutting)
     others = step1b ∷ ifOpen k (cut nounStep2a) ∷ cut nounStep2b ∷ nothing ∷ []
@@ -98,7 +98,7 @@ nouns-0 k n = λ i. firstOf (allEndings k (verbBy unexchanged) (inTurn (nounInTu
 -- Step2a | Step2b
 pub nouns-3 : (k : Kind) (n : Word) → endingsBy (pair nouns 3) k n ≡ endingsBy unexchanged k n
 unfolding endingsBy verbBy nounBy ordered exchanged firstOf
-nouns-3 k n = λ i. firstOf (allEndings k (verbBy unexchanged) (inTurn (nounInTurn (whole i)))) (record { text = n; cuts = [] })
+nouns-3 k n = λ i. firstOf (allEndingChoices k (verbBy unexchanged) (inTurn (nounInTurn (whole i)))) (uncut n)
   where
     go : (j : Kind) (v : Cutting) → Fails (cut nounStep2a) v ⊎ Fails (cut nounStep2b) v
         → firstOf (cut nounStep2b ∷ ifOpen j (cut nounStep2a) ∷ nothing ∷ []) v ≡ firstOf (ifOpen j (cut nounStep2a) ∷ cut nounStep2b ∷ nothing ∷ []) v
@@ -118,8 +118,8 @@ nouns-3 k n = λ i. firstOf (allEndings k (verbBy unexchanged) (inTurn (nounInTu
 -- behind Step1b: Step2a | Step2b
 pub step1bSequel-0 : (k : Kind) (n : Word) → endingsBy (pair step1bSequel 0) k n ≡ endingsBy unexchanged k n
 unfolding endingsBy verbBy nounBy ordered exchanged
-step1bSequel-0 k n = λ i. firstOf (allEndings k (verbBy unexchanged) (inTurn (nounInTurn (firstOf (nounChoices k (step1a sequel)
-    (inTurn (nounStep1bInTurn (cuts-exchange nounStep2a nounStep2b apart-2a-2b (cut nounStep2c1 ∷ []) i)))))))) (record { text = n; cuts = [] })
+step1bSequel-0 k n = λ i. firstOf (allEndingChoices k (verbBy unexchanged) (inTurn (nounInTurn (firstOf (nounChoices k (step1a sequel)
+    (inTurn (nounStep1bInTurn (cuts-exchange nounStep2a nounStep2b apart-2a-2b (cut nounStep2c1 ∷ []) i)))))))) (uncut n)
 
 -- ---- where the verb has failed, neither Step1a nor Step1b takes a row
 covered-1b : every (coveredRow nounStep1b) (suffix nounStep1b .table) ≡ true
@@ -131,14 +131,14 @@ module _ (x : Pair) where
   at-noun : verbBy x ≡ verb
       → ((v : Cutting) → nounBy x DEFINED v ≡ nounBy unexchanged DEFINED v)
       → ((v : Cutting) → Fails (cut nounStep1a) v → Fails (cut nounStep1b) v → nounBy x OPEN v ≡ nounBy unexchanged OPEN v)
-      → (k : Kind) (n : Word) → firstOf (allEndings k (verbBy x) (nounBy x k)) (record { text = n; cuts = [] })
-      ≡ firstOf (allEndings k verb (nounBy unexchanged k)) (record { text = n; cuts = [] })
+      → (k : Kind) (n : Word) → firstOf (allEndingChoices k (verbBy x) (nounBy x k)) (uncut n)
+      ≡ firstOf (allEndingChoices k verb (nounBy unexchanged k)) (uncut n)
   unfolding firstOf
-  at-noun e d o DEFINED n = ap (λ (t : Try Cutting). ifFailed t (firstOf (maqsura ∷ []))) (d (record { text = n; cuts = [] }))
+  at-noun e d o DEFINED n = ap (λ (t : Try Cutting). ifFailed t (firstOf (maqsura ∷ []))) (d (uncut n))
   at-noun e d o OPEN n = (λ i. ifFailed (e i w) (firstOf (nounBy x OPEN ∷ maqsura ∷ []))) ∙ go (verb w) (verb-ends w tt)
     where
       w : Cutting
-      w = record { text = n; cuts = [] }
+      w = uncut n
 
       go : (t : Try Cutting) → Ends Spared (Untaken w tt) t
           → ifFailed t (firstOf (nounBy x OPEN ∷ maqsura ∷ [])) ≡ ifFailed t (firstOf (nounBy unexchanged OPEN ∷ maqsura ∷ []))

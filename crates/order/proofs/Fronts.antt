@@ -18,7 +18,7 @@ use Rattle.definition.specs.Kind.{Kind, OPEN, DEFINED, ifOpen}
 use Rattle.definition.specs.Fronts.{PrefixStep, prefixStep1, prefixStep2, prefixStep3aNoun, prefixStep3bNoun, prefixStep3Verb, prefixStep4Verb, prefix, replacements, notAt, at, frontRow, replacement, Fronting, text, change, beginsWithAny, applyBy, applyUnless, apply, prefixStep3VerbInTurn, started}
 use Rattle.definition.proofs.Match.{either, either-right, either-not, by, clash, same-eq, same-refl, begins-split, begins-of}
 use Rattle.definition.proofs.Found.{Taken, taken-some, all-at}
-use Rattle.order.specs.Order.{pair, thirds, unexchanged, exchanged, ordered, back, backIfFailed, fromHere, prefixStepsBy}
+use Rattle.order.specs.Order.{pair, thirds, unexchanged, exchanged, ordered, rewound, rewoundIfFailed, fromHere, prefixStepsBy}
 use Rattle.order.proofs.Exchange.{Succeeds, Fails, Clean, first-fails, first-succeeds, one-fails}
 
 -- ---- two keys in front of one word
@@ -84,14 +84,14 @@ apply-clean s f = go (takes s f)
     go (inr p) = inr p
 
 -- ---- a cursor that goes back to where nothing was passed
-back-same : (f : Fronting) → f .passed ≡ [] → back f ≡ f
-back-same f e = λ i. record { front = f .front; headLetter = f .headLetter; passed = sym e i; rest = e i ++ f .rest; applied = f .applied }
+rewound-same : (f : Fronting) → f .passed ≡ [] → rewound f ≡ f
+rewound-same f e = λ i. record { front = f .front; headLetter = f .headLetter; passed = sym e i; rest = e i ++ f .rest; applied = f .applied }
 
 pub here-fails : (g : Step Fronting) (f : Fronting) → f .passed ≡ [] → Fails g f → Fails (fromHere g) f
-here-fails g f e p = ap backIfFailed p ∙ ap failed (back-same f e)
+here-fails g f e p = ap rewoundIfFailed p ∙ ap failed (rewound-same f e)
 
 pub here-clean : (g : Step Fronting) (f : Fronting) → f .passed ≡ [] → Clean g f → Clean (fromHere g) f
-here-clean g f e (inl s) = inl (s .0, ap backIfFailed (s .1))
+here-clean g f e (inl s) = inl (s .0, ap rewoundIfFailed (s .1))
 here-clean g f e (inr p) = inr (here-fails g f e p)
 
 -- ---- rows that exclude each other
@@ -206,14 +206,14 @@ module _ (n : Word) where
 
   -- where Step3b_Noun fails, it fails too behind what Step3_Verb has put
   fails-behind : Fails (apply prefixStep3bNoun) f → Takes prefixStep3Verb f ⊎ Fails (apply prefixStep3Verb) f
-      → Fails (apply prefixStep3bNoun) (back (after (apply prefixStep3Verb f)))
+      → Fails (apply prefixStep3bNoun) (rewound (after (apply prefixStep3Verb f)))
   unfolding change replacement
   fails-behind p (inr q) =
-      subst (Fails (apply prefixStep3bNoun)) (sym (ap (λ (x : Try Fronting). back (after x)) q ∙ back-same f (bare n))) p
-  fails-behind p (inl t) = subst (λ (x : Try Fronting). Fails (apply prefixStep3bNoun) (back (after x))) (sym (t .changes)) (go (takes prefixStep3bNoun h))
+      subst (Fails (apply prefixStep3bNoun)) (sym (ap (λ (x : Try Fronting). rewound (after x)) q ∙ rewound-same f (bare n))) p
+  fails-behind p (inl t) = subst (λ (x : Try Fronting). Fails (apply prefixStep3bNoun) (rewound (after x))) (sym (t .changes)) (go (takes prefixStep3bNoun h))
     where
       h : Fronting
-      h = back (change prefixStep3Verb f (at prefixStep3Verb (t .row)))
+      h = rewound (change prefixStep3Verb f (at prefixStep3Verb (t .row)))
 
       go : Takes prefixStep3bNoun h ⊎ Fails (apply prefixStep3bNoun) h → Fails (apply prefixStep3bNoun) h
       go (inr q) = q
@@ -241,15 +241,15 @@ module _ (n : Word) where
       go : Clean (apply prefixStep4Verb) h
           → text (after (firstOf (fromHere (verb-fronts OPEN) ∷ b ∷ []) f)) ≡ text (after (firstOf (b ∷ fromHere (verb-fronts OPEN) ∷ []) f))
       go (inl s) =
-          let v : Succeeds (fromHere (verb-fronts OPEN)) f = (s .0, ap backIfFailed (s .1)) in
+          let v : Succeeds (fromHere (verb-fronts OPEN)) f = (s .0, ap rewoundIfFailed (s .1)) in
           ap (λ (x : Try Fronting). text (after x))
           (first-succeeds (fromHere (verb-fronts OPEN)) (b ∷ []) f v
           ∙ sym (first-fails b (fromHere (verb-fronts OPEN) ∷ []) f (here-fails (apply prefixStep3bNoun) f (bare n) p) ∙ first-succeeds (fromHere (verb-fronts OPEN)) [] f v))
       go (inr q) =
-          let v : fromHere (verb-fronts OPEN) f ≡ failed (back h) = ap backIfFailed q in
-          let z : Fails b (back h) = here-fails (apply prefixStep3bNoun) (back h) refl (fails-behind p (takes prefixStep3Verb f)) in
+          let v : fromHere (verb-fronts OPEN) f ≡ failed (rewound h) = ap rewoundIfFailed q in
+          let z : Fails b (rewound h) = here-fails (apply prefixStep3bNoun) (rewound h) refl (fails-behind p (takes prefixStep3Verb f)) in
           ap (λ (x : Try Fronting). text (after x))
-          (ap (λ (x : Try Fronting). ifFailed x (firstOf (b ∷ []))) v ∙ first-fails b [] (back h) z
+          (ap (λ (x : Try Fronting). ifFailed x (firstOf (b ∷ []))) v ∙ first-fails b [] (rewound h) z
           ∙ sym (first-fails b (fromHere (verb-fronts OPEN) ∷ []) f (here-fails (apply prefixStep3bNoun) f (bare n) p) ∙ ap (λ (x : Try Fronting). ifFailed x (firstOf [])) v))
 
   -- both orders behind Step3a_Noun

@@ -2,50 +2,28 @@
 use mathlib.Core.Path.{_≡_, refl, sym, ap, _∙_}
 use mathlib.Core.Logic.{inl, inr}
 use mathlib.Core.List.{List, [], _∷_, map}
-use Rattle.definition.specs.Letters.{alefMaksura}
-use Rattle.definition.specs.Words.{Word, endsWith}
+use Rattle.definition.specs.Words.{Word}
 use Rattle.definition.specs.Tries.{Step, Try, done, failed, after, ifFailed, _thenTry_, firstOf, attempt}
-use Rattle.definition.specs.Kind.{Kind, ifOpen, kind}
+use Rattle.definition.specs.Kind.{Kind, kind}
 use Rattle.definition.specs.Normal.{normalise}
-use Rattle.definition.specs.Endings.{Cutting, verb, noun, endings, suffixAllAlefMaqsura, maqsuraIfFailed}
+use Rattle.definition.specs.Endings.{verb, noun, endingsLeave}
 use Rattle.definition.specs.Fronts.{prefixStep3aNoun, prefixStep3bNoun, Fronting, text, apply, prefixSteps, started, fronts}
 use Rattle.definition.specs.Finish.{finish}
-use Rattle.definition.specs.Stem.{cutting, fronting, stemOf, stem}
-use Rattle.definition.proofs.Match.{by}
-use Rattle.definition.proofs.Stays.{maqsura-stays}
-use Rattle.order.specs.Order.{unexchanged, ordered, fromHere, backIfFailed, maqsura, verbBy, nounBy, endingsBy, prefixStepsBy, finishBy, stemBy}
+use Rattle.definition.specs.Stem.{fronting, stemOf, stem}
+use Rattle.order.specs.Order.{unexchanged, ordered, fromHere, rewoundIfFailed, verbBy, nounBy, endingsBy, prefixStepsBy, finishBy, stemBy}
 use Rattle.order.proofs.Exchange.{Clean, first-fails, first-succeeds}
 use Rattle.order.proofs.Fronts.{third-from, bare, verb-fronts, apply-clean, here-fails}
 
 -- ---- item 3
-maqsura-step : (x : Cutting) → after (firstOf (maqsura ∷ []) x) .text ≡ suffixAllAlefMaqsura (x .text)
-unfolding firstOf maqsura
-maqsura-step x = by (endsWith (x .text) (alefMaksura ∷ []))
-    (λ t. rw t refl)
-    (λ t. rw t (sym (maqsura-stays (x .text) t)))
-
-three : (f g : Step Cutting) (w : Cutting)
-    → after (firstOf (f ∷ g ∷ maqsura ∷ []) w) .text ≡ maqsuraIfFailed (firstOf (f ∷ g ∷ []) w) (after (firstOf (f ∷ g ∷ []) w) .text)
-unfolding firstOf maqsuraIfFailed
-three f g w = one (f w)
-  where
-    two : (t : Try Cutting) → after (ifFailed t (firstOf (maqsura ∷ []))) .text ≡ maqsuraIfFailed (ifFailed t (firstOf [])) (after (ifFailed t (firstOf [])) .text)
-    two (done b) = refl
-    two (failed b) = maqsura-step b
-
-    one : (t : Try Cutting) → after (ifFailed t (firstOf (g ∷ maqsura ∷ []))) .text ≡ maqsuraIfFailed (ifFailed t (firstOf (g ∷ []))) (after (ifFailed t (firstOf (g ∷ []))) .text)
-    one (done b) = refl
-    one (failed b) = two (g b)
-
-endings-same : (k : Kind) (n : Word) → after (endingsBy unexchanged k n) .text ≡ maqsuraIfFailed (endings k n) (cutting k n .text)
-unfolding endingsBy verbBy nounBy ordered endings verb noun cutting
-endings-same k n = three (ifOpen k verb) (noun k) (record { text = n; cuts = [] })
+endings-same : (k : Kind) (n : Word) → after (endingsBy unexchanged k n) .text ≡ endingsLeave k n
+unfolding endingsBy verbBy nounBy ordered verb noun
+endings-same k n = refl
 
 -- ---- item 4
 module _ (f : Fronting) (e : f .passed ≡ []) where
   first-same : (g : Step Fronting) (fs : List (Step Fronting)) → Clean g f → text (after (firstOf (map fromHere fs) f)) ≡ text (after (firstOf fs f))
       → text (after (firstOf (map fromHere (g ∷ fs)) f)) ≡ text (after (firstOf (g ∷ fs) f))
-  first-same g fs (inl s) h = ap (λ (x : Try Fronting). text (after x)) (first-succeeds (fromHere g) (map fromHere fs) f (s .0, ap backIfFailed (s .1)) ∙ sym (first-succeeds g fs f s))
+  first-same g fs (inl s) h = ap (λ (x : Try Fronting). text (after x)) (first-succeeds (fromHere g) (map fromHere fs) f (s .0, ap rewoundIfFailed (s .1)) ∙ sym (first-succeeds g fs f s))
   first-same g fs (inr p) h =
       ap (λ (x : Try Fronting). text (after x)) (first-fails (fromHere g) (map fromHere fs) f (here-fails g f e p)) ∙ h
       ∙ sym (ap (λ (x : Try Fronting). text (after x)) (first-fails g fs f p))
@@ -54,7 +32,7 @@ module _ (f : Fronting) (e : f .passed ≡ []) where
   unfolding firstOf
   last-same g = go (g f)
     where
-      go : (t : Try Fronting) → text (after (ifFailed (backIfFailed t) (firstOf []))) ≡ text (after (ifFailed t (firstOf [])))
+      go : (t : Try Fronting) → text (after (ifFailed (rewoundIfFailed t) (firstOf []))) ≡ text (after (ifFailed t (firstOf [])))
       go (done x) = refl
       go (failed x) = refl
 

@@ -3,12 +3,11 @@ use Prim.Native.Nat.{ℕ, zero, suc}
 use mathlib.Core.List.{List, [], _∷_, _++_, map}
 use lib.Dec.{eqb}
 use lib.ListN.{length}
-use Rattle.definition.specs.Letters.{alefMaksura}
-use Rattle.definition.specs.Words.{Word, pick, endsWith}
+use Rattle.definition.specs.Words.{Word, pick}
 use Rattle.definition.specs.Tries.{Step, Try, done, failed, after, inTurn, firstOf, allOf}
 use Rattle.definition.specs.Kind.{Kind, OPEN, kind}
 use Rattle.definition.specs.Normal.{normalise}
-use Rattle.definition.specs.Endings.{Cutting, afterVerbStep1, verbStep1InTurn, verbChoices, afterNounStep1a, nounStep1aInTurn, afterNounStep1b, nounStep1bInTurn, nounChoices, nounInTurn, endingChoices, suffixAllAlefMaqsura}
+use Rattle.definition.specs.Endings.{Cutting, uncut, afterVerbStep1, verbStep1InTurn, verbChoices, afterNounStep1a, nounStep1aInTurn, afterNounStep1b, nounStep1bInTurn, nounChoices, nounInTurn, allEndingChoices}
 use Rattle.definition.specs.Fronts.{Fronting, text, prefixStep3VerbInTurn, prefixStep3Choices, prefixesInTurn, started}
 use Rattle.definition.specs.Finish.{finishInTurn}
 
@@ -76,24 +75,16 @@ module _ {A : Type 0} where
   unfoldable pub ordered : Pair → Place → List A → List A
   ordered x p fs = pick (eqb (placeNumber (x .place)) (placeNumber p)) (exchanged (x .first) fs) fs
 
--- the last 0649 of item 3: it succeeds where the last letter is 0649
-unfoldable pub maqsura : Step Cutting
-maqsura v = pick (endsWith (v .text) (alefMaksura ∷ [])) (done (record { text = suffixAllAlefMaqsura (v .text); cuts = v .cuts })) (failed v)
-
--- verb and noun of the definition, and behind them the last 0649
-abbrev pub allEndings : Kind → Step Cutting → Step Cutting → List (Step Cutting)
-allEndings k byVerb byNoun = endingChoices k byVerb byNoun ++ (maqsura ∷ [])
-
 -- Item 4: where an alternative fails, the cursor goes back to where it stood before Step3, when nothing was passed yet.
-abbrev pub back : Fronting → Fronting
-back f = record { front = f .front; headLetter = f .headLetter; passed = []; rest = f .passed ++ f .rest; applied = f .applied }
+abbrev pub rewound : Fronting → Fronting
+rewound f = record { front = f .front; headLetter = f .headLetter; passed = []; rest = f .passed ++ f .rest; applied = f .applied }
 
-abbrev pub backIfFailed : Try Fronting → Try Fronting
-backIfFailed (done f) = done f
-backIfFailed (failed f) = failed (back f)
+abbrev pub rewoundIfFailed : Try Fronting → Try Fronting
+rewoundIfFailed (done f) = done f
+rewoundIfFailed (failed f) = failed (rewound f)
 
 abbrev pub fromHere : Step Fronting → Step Fronting
-fromHere g f = backIfFailed (g f)
+fromHere g f = rewoundIfFailed (g f)
 
 -- a word on its way, with the kind that it has so far
 pub record Under : Type 0 where
@@ -141,7 +132,7 @@ module _ (x : Pair) where
 
   -- ---- item 3
   unfoldable pub endingsBy : Kind → Word → Try Cutting
-  endingsBy k n = firstOf (ordered x ends (allEndings k verbBy (nounBy k))) (record { text = n; cuts = [] })
+  endingsBy k n = firstOf (ordered x ends (allEndingChoices k verbBy (nounBy k))) (uncut n)
 
   -- ---- item 4
   abbrev pub verbFrontsBy : Step Fronting

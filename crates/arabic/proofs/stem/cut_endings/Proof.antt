@@ -1,5 +1,5 @@
 -- `stem::cut_endings` meets its contract. Assumes nothing.
-use Rattle.arabic.specs.Nests.{uncut}
+use Rattle.definition.specs.Endings.{uncut}
 use Rattle.arabic.proofs.Items.{to-end, to-front}
 use Rattle.arabic.proofs.stem.cut_endings.Statement.{statement}
 use Rattle.arabic.proofs.stem.cut_endings.Tie as tie

@@ -1,5 +1,6 @@
 -- `stem::stem_of` meets its contract. Assumes nothing.
-use mathlib.Core.Path.{subst}
+use mathlib.Core.Path.{sym, subst}
+use Rattle.definition.specs.Words.{Word}
 use Rattle.definition.specs.Tries.{after}
 use Rattle.definition.specs.Kind.{Kind}
 use Rattle.definition.specs.Normal.{normalise}
@@ -7,6 +8,7 @@ use Rattle.definition.specs.Endings.{endings, maqsuraIfFailed}
 use Rattle.definition.specs.Fronts.{text, fronts}
 use Rattle.definition.specs.Finish.{finish}
 use Rattle.definition.specs.Stem.{cutting, fronting, stemOf}
+use Rattle.definition.proofs.Leave.{endings-leave}
 use Rattle.snowball.specs.Chars.{started}
 use Rattle.snowball.specs.Stands.{Stands}
 use Rattle.arabic.specs.Kinds.{kindOf}
@@ -41,8 +43,9 @@ returns c =
     let n = s .before in
     let e = n .before .pre .2 in
     let d = kindOf (n .before .args .context .«b_is_defined») in
-    λ w st. subst (λ (k : Kind). Stands (c .finish-letters .result) (started (finish (text (fronts k (maqsuraIfFailed (endings d (normalise w)) (after (endings d (normalise w)) .text)))))))
-    e (c .finish-letters .ensures _ (f .change-front .ensures _ (s .cut-endings .ensures e (normalise w) (n .r-Normalize-pre .ensures w st))))
+    λ w st. subst (λ (x : Word). Stands (c .finish-letters .result) (started (finish (text (fronts d x))))) (sym (endings-leave d (normalise w)))
+    (subst (λ (k : Kind). Stands (c .finish-letters .result) (started (finish (text (fronts k (maqsuraIfFailed (endings d (normalise w)) (after (endings d (normalise w)) .text)))))))
+    e (c .finish-letters .ensures _ (f .change-front .ensures _ (s .cut-endings .ensures e (normalise w) (n .r-Normalize-pre .ensures w st)))))
 
 pub stem-of-spec : {M : Type 1} → statement M
 stem-of-spec = tie.close (tie.spec r-Normalize-pre-requires cut-endings-requires change-front-requires finish-letters-requires returns)

@@ -3,10 +3,9 @@ use mathlib.Core.Path.{_≡_, ap, _∙_, subst}
 use Rattle.definition.specs.Words.{Word}
 use Rattle.definition.specs.Tries.{ifFailed}
 use Rattle.definition.specs.Kind.{Kind, ifOpen}
-use Rattle.definition.specs.Endings.{verb, noun, endings}
+use Rattle.definition.specs.Endings.{uncut, verb, noun, endings}
 use Rattle.arabic.specs.Endings.{Ends, Gives}
 use Rattle.arabic.specs.Kinds.{kindByVerb, kindOf}
-use Rattle.arabic.specs.Nests.{uncut}
 use Rattle.arabic.proofs.Nest.{ready, endings-is, maqsura-done, maqsura-failed}
 use borrow.Author.Needs.{needs}
 use Rattle.arabic.proofs.suffix_nest.suffixes.Statement.{statement}
