@@ -79,7 +79,7 @@ unfolding chain
 turned w = reverse-reverse (cuts w)
 
 pub demand3 : (w : Word) → Demand3 w (stem w)
-unfolding stem chain back cuts applied front headLetter run
+unfolding stem stemOf fronting chain back cuts applied front headLetter run
 demand3 w =
     let k : Kind = kind w in
     let n : Word = normalise w in

@@ -8,10 +8,10 @@ use Rattle.definition.specs.Letters.{hamza, alef, waw, yeh}
 use Rattle.definition.specs.Words.{Word, every, beginsWith, endsWith}
 use Rattle.definition.specs.Tables.{Table, «A_1», «A_2», «A_21»}
 use Rattle.definition.specs.Search.{rowAt, longest}
-use Rattle.definition.specs.Tries.{done, again}
+use Rattle.definition.specs.Tries.{done, after, again}
 use Rattle.definition.specs.Kind.{Kind}
 use Rattle.definition.specs.Normal.{normalise}
-use Rattle.definition.specs.Endings.{SuffixStep, Cutting, cut, suffixAllAlefMaqsura}
+use Rattle.definition.specs.Endings.{SuffixStep, Cutting, cut, endings, suffixAllAlefMaqsura, allEndings, maqsuraIfFailed}
 use Rattle.definition.specs.Finish.{last, other, finish}
 use Rattle.definition.specs.Stem.{cutting, stem}
 use Rattle.definition.specs.Demand3.{Demand3}
@@ -22,6 +22,7 @@ use Rattle.definition.proofs.Examples.{examples-right}
 use Rattle.definition.proofs.Finish.{finish-all}
 use Rattle.definition.proofs.Listed.{every-class-listed}
 use Rattle.definition.proofs.Rows.{last-rows, other-rows, maqsura-row}
+use Rattle.definition.proofs.Leave.{all-endings}
 use Rattle.definition.proofs.Unique.{rigid-front, rigid-end, longest-is, distinct-all}
 use Rattle.definition.proofs.Step1a.{no-step1a}
 use Rattle.definition.proofs.Again.{again-ends}
@@ -40,6 +41,10 @@ main-only = demand3-only
 -- so normalising and finishing with no cuts between does not meet it
 pub main-no-cuts : Demand3 cutWord (finish (normalise cutWord)) → ⊥
 main-no-cuts = no-cuts
+
+-- item 3 as it is run: it leaves what verb and noun leave and have cut, where a last 0649 changes if they fail
+pub main-endings : (k : Kind) (n : Word) → after (allEndings k n) ≡ record { text = maqsuraIfFailed (endings k n) (cutting k n .text); cuts = cutting k n .cuts }
+main-endings = all-endings
 
 -- document 01's twelve words, and the worked examples
 pub main-twelve : map computed twelve ≡ twelve

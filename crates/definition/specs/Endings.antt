@@ -136,11 +136,14 @@ maqsura v = pick (endsWith (v .text) (alefMaksura ∷ [])) (done (record { text 
 abbrev pub allEndingChoices : Kind → Step Cutting → Step Cutting → List (Step Cutting)
 allEndingChoices k byVerb byNoun = endingChoices k byVerb byNoun ++ (maqsura ∷ [])
 
--- the letters that item 3 leaves
-abbrev pub endingsLeave : Kind → Word → Word
-endingsLeave k n = after (firstOf (allEndingChoices k verb (noun k)) (uncut n)) .text
+-- item 3, and the letters that it leaves
+abbrev pub allEndings : Kind → Word → Try Cutting
+allEndings k n = firstOf (allEndingChoices k verb (noun k)) (uncut n)
 
--- The same in other words: the last 0649 changes if Step3 fails, `endings` being t and w what it leaves.
+abbrev pub endingsLeave : Kind → Word → Word
+endingsLeave k n = after (allEndings k n) .text
+
+-- the same in other words, where t is what comes of verb and noun: the last 0649 changes if Step3 fails
 unfoldable pub maqsuraIfFailed : Try Cutting → Word → Word
 maqsuraIfFailed (done v) w = w
 maqsuraIfFailed (failed v) w = suffixAllAlefMaqsura w

@@ -6,12 +6,13 @@ use native.Mathlib.Omega.{arith}
 use lib.ListN.{length}
 use Rattle.definition.specs.Words.{Word}
 use Rattle.definition.specs.Tries.{Step, Try, after, inTurn, firstOf, allOf}
-use Rattle.definition.specs.Kind.{Kind, OPEN, kind}
+use Rattle.definition.specs.Kind.{Kind, kind}
 use Rattle.definition.specs.Normal.{normalise}
 use Rattle.definition.specs.Endings.{Cutting, uncut, afterVerbStep1, verbStep1InTurn, verbChoices, afterNounStep1a, nounStep1aInTurn, afterNounStep1b, nounStep1bInTurn, nounChoices, nounInTurn, allEndingChoices}
 use Rattle.definition.specs.Fronts.{Fronting, text, prefixStep3VerbInTurn, prefixStep3Choices, prefixesInTurn, started}
 use Rattle.definition.specs.Finish.{finishInTurn}
-use Rattle.order.specs.Order.{Place, way, ends, verbs, verbTurns, verbSequel, nounTurns, nouns, step1aTurns, step1aSequel, step1bTurns, step1bSequel, fronts, thirds, verbFronts, finishing, nowhere, pair, unexchanged, exchanged, ordered, fromHere, items, verbBy, nounBy, endingsBy, prefixStepsBy, finishBy, stemBy}
+use Rattle.definition.specs.Stem.{itemsInTurn, unchecked}
+use Rattle.order.specs.Order.{Place, way, ends, verbs, verbTurns, verbSequel, nounTurns, nouns, step1aTurns, step1aSequel, step1bTurns, step1bSequel, fronts, thirds, verbFronts, finishing, nowhere, pair, unexchanged, exchanged, ordered, fromHere, verbBy, nounBy, endingsBy, prefixStepsBy, finishBy, stemBy}
 use Rattle.order.specs.Settled.{Unshown, entries}
 use Rattle.order.proofs.Kept.{by-endings, by-fronts}
 use Rattle.order.proofs.Same.{same}
@@ -61,7 +62,7 @@ fourth k n = text (after (prefixStepsBy unexchanged k (started n)))
 
 pub no-other : (p : Place) (i : ℕ) → entries p ≤ suc i → Unshown (pair p i)
 unfolding stemBy ordered endingsBy verbBy nounBy prefixStepsBy finishBy
-no-other way i h = λ w. (λ j. allOf (beyond i (items third fourth (finishBy unexchanged)) h j) (record { is = OPEN; word = w }) .word) ∙ same w
+no-other way i h = λ w. (λ j. allOf (beyond i (itemsInTurn third fourth (finishBy unexchanged)) h j) (unchecked w) .word) ∙ same w
 no-other ends i h = by-endings (pair ends i)
     (λ k n j. firstOf (beyond i (allEndingChoices k (verbBy unexchanged) (nounBy unexchanged k)) h j) (uncut n)) (λ w. refl)
 no-other verbs i h = by-endings (pair verbs i)

@@ -9,7 +9,7 @@ use Rattle.definition.specs.Normal.{normalise}
 use Rattle.definition.specs.Endings.{verb, noun, endingsLeave}
 use Rattle.definition.specs.Fronts.{prefixStep3aNoun, prefixStep3bNoun, Fronting, text, apply, prefixSteps, started, fronts}
 use Rattle.definition.specs.Finish.{finish}
-use Rattle.definition.specs.Stem.{fronting, stemOf, stem}
+use Rattle.definition.specs.Stem.{stem}
 use Rattle.order.specs.Order.{unexchanged, ordered, fromHere, rewoundIfFailed, verbBy, nounBy, endingsBy, prefixStepsBy, finishBy, stemBy}
 use Rattle.order.proofs.Exchange.{Clean, first-fails, first-succeeds}
 use Rattle.order.proofs.Fronts.{third-from, bare, verb-fronts, apply-clean, here-fails}
@@ -48,7 +48,7 @@ unfolding finishBy ordered finish
 finish-same w = refl
 
 pub same : (w : Word) → stemBy unexchanged w ≡ stem w
-unfolding stemBy ordered stem stemOf fronting
+unfolding stemBy ordered stem
 same w =
     finish-same _
     ∙ ap finish (fronts-same (kind w) (after (endingsBy unexchanged (kind w) (normalise w)) .text)

@@ -5,11 +5,11 @@ use lib.Dec.{eqb}
 use lib.ListN.{length}
 use Rattle.definition.specs.Words.{Word, pick}
 use Rattle.definition.specs.Tries.{Step, Try, done, failed, after, inTurn, firstOf, allOf}
-use Rattle.definition.specs.Kind.{Kind, OPEN, kind}
-use Rattle.definition.specs.Normal.{normalise}
+use Rattle.definition.specs.Kind.{Kind}
 use Rattle.definition.specs.Endings.{Cutting, uncut, afterVerbStep1, verbStep1InTurn, verbChoices, afterNounStep1a, nounStep1aInTurn, afterNounStep1b, nounStep1bInTurn, nounChoices, nounInTurn, allEndingChoices}
 use Rattle.definition.specs.Fronts.{Fronting, text, prefixStep3VerbInTurn, prefixStep3Choices, prefixesInTurn, started}
 use Rattle.definition.specs.Finish.{finishInTurn}
+use Rattle.definition.specs.Stem.{itemsInTurn, unchecked}
 
 -- The places where steps stand in an order: they follow each other, or the first that succeeds is taken.
 pub data Place : Type 0 where
@@ -86,24 +86,6 @@ rewoundIfFailed (failed f) = failed (rewound f)
 abbrev pub fromHere : Step Fronting → Step Fronting
 fromHere g f = rewoundIfFailed (g f)
 
--- a word on its way, with the kind that it has so far
-pub record Under : Type 0 where
-  pub is : Kind
-  pub word : Word
-
-abbrev pub changed : (Kind → Word → Word) → Under → Under
-changed f u = record { is = u .is; word = f (u .is) (u .word) }
-
--- the five items, as a function of the last three
-abbrev pub items : (Kind → Word → Word) → (Kind → Word → Word) → (Word → Word) → List (Under → Under)
-items third fourth fifth =
-    (λ (u : Under). record { is = kind (u .word); word = u .word })
-    ∷ changed (λ (k : Kind) (n : Word). normalise n)
-    ∷ changed third
-    ∷ changed fourth
-    ∷ changed (λ (k : Kind) (n : Word). fifth n)
-    ∷ []
-
 -- The definition's lists of steps, with the pair x exchanged where it stands.
 module _ (x : Pair) where
   -- ---- the verb
@@ -150,7 +132,7 @@ module _ (x : Pair) where
 
   -- ---- a word's way
   unfoldable pub stemBy : Word → Word
-  stemBy w = allOf (ordered x way (items
+  stemBy w = allOf (ordered x way (itemsInTurn
       (λ (k : Kind) (n : Word). after (endingsBy k n) .text)
       (λ (k : Kind) (n : Word). text (after (prefixStepsBy k (started n))))
-      finishBy)) (record { is = OPEN; word = w }) .word
+      finishBy)) (unchecked w) .word

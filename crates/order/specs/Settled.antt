@@ -10,8 +10,8 @@ use Rattle.definition.specs.Kind.{Kind, OPEN}
 use Rattle.definition.specs.Endings.{afterVerbStep1, verbStep1InTurn, verbChoices, afterNounStep1a, nounStep1aInTurn, afterNounStep1b, nounStep1bInTurn, nounChoices, nounInTurn, allEndingChoices}
 use Rattle.definition.specs.Fronts.{prefixStep3VerbInTurn, prefixStep3Choices, prefixesInTurn}
 use Rattle.definition.specs.Finish.{finishInTurn}
-use Rattle.definition.specs.Stem.{stem}
-use Rattle.order.specs.Order.{Place, way, ends, verbs, verbTurns, verbSequel, nounTurns, nouns, step1aTurns, step1aSequel, step1bTurns, step1bSequel, fronts, thirds, verbFronts, finishing, nowhere, Pair, pair, items, stemBy}
+use Rattle.definition.specs.Stem.{itemsInTurn, stem}
+use Rattle.order.specs.Order.{Place, way, ends, verbs, verbTurns, verbSequel, nounTurns, nouns, step1aTurns, step1aSequel, step1bTurns, step1bSequel, fronts, thirds, verbFronts, finishing, nowhere, Pair, pair, stemBy}
 
 -- no word's stem changes
 abbrev pub Unshown : Pair → Type 0
@@ -102,7 +102,7 @@ settled =
 
 -- How many steps stand at a place: as many as the list has that is run there. What is nested in the list does not matter.
 abbrev pub entries : Place → ℕ
-entries way = length (items (λ (k : Kind) (n : Word). n) (λ (k : Kind) (n : Word). n) (λ (n : Word). n))
+entries way = length (itemsInTurn (λ (k : Kind) (n : Word). n) (λ (k : Kind) (n : Word). n) (λ (n : Word). n))
 entries ends = length (allEndingChoices OPEN nothing nothing)
 entries verbs = length (verbChoices nothing)
 entries verbTurns = length (verbStep1InTurn 0 nothing)

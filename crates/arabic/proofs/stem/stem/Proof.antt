@@ -2,7 +2,7 @@
 use mathlib.Core.Path.{_≡_, refl, sym, ap, _∙_, subst}
 use Rattle.definition.specs.Kind.{Kind, OPEN, DEFINED, kind}
 use Rattle.definition.specs.Normal.{normalise}
-use Rattle.definition.specs.Stem.{stemOf, stem}
+use Rattle.definition.specs.Stem.{fronting, stemOf, stem}
 use Rattle.snowball.specs.Chars.{started}
 use Rattle.snowball.specs.Stands.{Stands}
 use Rattle.arabic.specs.declared.context.Context.{Context}
@@ -29,7 +29,7 @@ stem-of-requires c κs =
     (p .0, p .1, subst (λ (x : Context). kindByVerb (x .«b_is_verb») ≡ kindOf (x .«b_is_defined»)) (sym e) (one-kind (kind (p .0 .0))))
 
 returns : tie.Need-returns
-unfolding stem
+unfolding stem stemOf fronting
 returns c =
     let k = c .before .checked in
     λ w st.
