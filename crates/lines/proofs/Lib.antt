@@ -1,3 +1,4 @@
+-- The main theorems of the line machine, and the laws that its proofs cite.
 pub mod Main
 pub mod Examples
 pub mod Lists

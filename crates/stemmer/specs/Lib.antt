@@ -1,1 +1,2 @@
+-- What the entries answer.
 pub mod Entries
