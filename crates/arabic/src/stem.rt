@@ -21,10 +21,10 @@ ghost use Rattle.snowball.specs.Stands.{Stands};
 ghost use Rattle.arabic.specs.Kinds.{kindByVerb, kindOf};
 ghost use Rattle.arabic.specs.Texts.{longestWord};
 
-// Item 3: the endings, backward from the end of the text. The cursor then goes back to the front.
+// Item 3: the endings, backward from the end of the text. The cursor then goes back to the front. The two flags are those of one kind.
 fn cut_endings(env: Env, b_is_defined: bool, b_is_verb: bool) -> Env
-    requires { ⌜ ((w : Word) × Stands env (started w)) ⌝ }
-    ensures { λ r. ⌜ (kindByVerb «b_is_verb» ≡ kindOf «b_is_defined» → (w : Word) → Stands env (started w)
+    requires { ⌜ ((w : Word) × Stands env (started w)) × (kindByVerb «b_is_verb» ≡ kindOf «b_is_defined») ⌝ }
+    ensures { λ r. ⌜ ((w : Word) → Stands env (started w)
         → Stands r (started (maqsuraIfFailed (endings (kindOf «b_is_defined») w) (after (endings (kindOf «b_is_defined») w) .text)))) ⌝ }
 {
     let mut e = env;

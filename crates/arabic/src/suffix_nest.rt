@@ -37,8 +37,8 @@ fn or_noun(t: Tried, b_is_defined: bool) -> Tried
 
 // The verb or the noun, and a last 0649 where both have failed. The two flags are those of one kind.
 pub fn suffixes(env: Env, b_is_defined: bool, b_is_verb: bool) -> Env
-    requires { ⌜ Ready env ⌝ }
-    ensures { λ r. ⌜ (kindByVerb «b_is_verb» ≡ kindOf «b_is_defined» → (w : Word) → Stands env (atEnd w)
+    requires { ⌜ Ready env × (kindByVerb «b_is_verb» ≡ kindOf «b_is_defined») ⌝ }
+    ensures { λ r. ⌜ ((w : Word) → Stands env (atEnd w)
         → Stands r (atEnd (maqsuraIfFailed (endings (kindOf «b_is_defined») w) (after (endings (kindOf «b_is_defined») w) .text)))) ⌝ }
 {
     let a = open_verb(env, b_is_verb);
