@@ -4,10 +4,10 @@ use mathlib.Core.Bool.{true, false, false≢true}
 use mathlib.Core.List.{[], _∷_}
 use lib.ListN.{length}
 use Rattle.definition.specs.Tries.{Try, done, failed, Step, after, andThen, ifFailed, nothing, _thenTry_, attempt, again, firstOf}
-use Rattle.definition.specs.Endings.{Cutting, uncut, cut, verbStep1, verbStep2a, verbStep2b, verbStep2c, nounStep1a, nounStep1b, nounStep2a, nounStep2b, nounStep2c1, nounStep3, verb, noun, endings, suffixAllAlefMaqsura, maqsuraIfFailed}
+use Rattle.definition.specs.Endings.{Cutting, uncut, cut, verbStep1, verbStep2a, verbStep2b, verbStep2c, nounStep1b, nounStep2a, nounStep2b, nounStep2c1, nounStep3, verb, noun, endings, suffixAllAlefMaqsura, maqsuraIfFailed}
 use Rattle.definition.specs.Words.{Word}
 use Rattle.definition.specs.Fronts.{Fronting, prefixStep1, prefixStep2, prefixStep3aNoun, prefixStep3bNoun, prefixStep3Verb, prefixStep4Verb, apply, prefixSteps}
-use Rattle.definition.specs.Kind.{Kind, OPEN, DEFINED, ifOpen}
+use Rattle.definition.specs.Kind.{Kind, DEFINED, ifOpen}
 use Rattle.definition.proofs.Tried.{first-from}
 use Rattle.snowball.specs.declared.env.Env.{Env}
 use Rattle.snowball.specs.Stands.{Stands}
@@ -15,7 +15,7 @@ use Rattle.arabic.specs.declared.tried.Tried.{Tried}
 use Rattle.arabic.specs.Tried.{Answers}
 use Rattle.arabic.specs.Endings.{atEnd, Ready, Gives, Given}
 use Rattle.arabic.specs.Fronts.{ReadyFront, GivenFront}
-use Rattle.arabic.specs.Nests.{afterStep1, afterStep1a, afterStep1b, byStep1a, byStep1b, nounFirst, verbSteps}
+use Rattle.arabic.specs.Nests.{afterStep1, afterStep1b, byStep1b, nounFirst, verbSteps}
 
 pub ready : (t : Tried) → Given t → Ready (t .env)
 ready t g = (after (g .0), g .1 .env)
@@ -55,20 +55,12 @@ pub after-step1b-is : (v : Cutting) → ifFailed (ifFailed (cut nounStep2a v) (c
 unfolding afterStep1b
 after-step1b-is v = sym (first-from (cut nounStep2a) (cut nounStep2b ∷ cut nounStep2c1 ∷ []) v)
 
-pub after-step1a-is : (v : Cutting) → ifFailed (ifFailed (ifFailed (cut nounStep2a v) (cut nounStep2b)) (cut nounStep2c1)) nothing ≡ afterStep1a v
-unfolding afterStep1a
-after-step1a-is v = sym (first-from (cut nounStep2a) (cut nounStep2b ∷ cut nounStep2c1 ∷ nothing ∷ []) v)
-
-pub by-step1a-is : (v : Cutting) → andThen (cut nounStep1a v) afterStep1a ≡ byStep1a OPEN v
-unfolding byStep1a _thenTry_
-by-step1a-is v = refl
-
 pub by-step1b-is : (v : Cutting) → andThen (cut nounStep1b v) afterStep1b ≡ byStep1b v
 unfolding byStep1b _thenTry_
 by-step1b-is v = refl
 
 pub noun-is : (k : Kind) (v : Cutting) → andThen (nounFirst k v) (cut nounStep3) ≡ noun k v
-unfolding noun nounFirst byStep1a byStep1b afterStep1a afterStep1b _thenTry_
+unfolding noun nounFirst byStep1b afterStep1b _thenTry_
 noun-is k v = refl
 
 -- the last alternative is nothing

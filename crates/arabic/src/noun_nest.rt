@@ -1,5 +1,4 @@
 // The noun's alternatives of item 3: one function for each nest of them.
-use crate::suffix_steps::r_Suffix_Noun_Step1a;
 use crate::suffix_steps::r_Suffix_Noun_Step1b;
 use crate::suffix_steps::r_Suffix_Noun_Step2a;
 use crate::suffix_steps::r_Suffix_Noun_Step2b;
@@ -16,7 +15,7 @@ ghost use Rattle.definition.specs.Kind.{ifOpen};
 ghost use Rattle.definition.specs.Endings.{Cutting, cut, nounStep2a, nounStep2b, nounStep2c1, noun};
 ghost use Rattle.arabic.specs.Endings.{Ends, Ready, Gives, Given};
 ghost use Rattle.arabic.specs.Kinds.{kindOf};
-ghost use Rattle.arabic.specs.Nests.{afterStep1a, afterStep1b, byStep1a, byStep1b, nounFirst};
+ghost use Rattle.arabic.specs.Nests.{afterStep1b, byStep1b, nounFirst};
 
 fn or_Step2b(t: Tried) -> Tried
     requires { ⌜ Given t ⌝ }
@@ -50,28 +49,6 @@ fn after_Step1b(env: Env) -> Tried
     or_Step2c1(b)
 }
 
-// Behind Step1a: the same, else nothing.
-fn after_Step1a(env: Env) -> Tried
-    requires { ⌜ Ready env ⌝ }
-    ensures { λ r. ⌜ ((v : Cutting) → Ends env v → Gives r (afterStep1a v)) ⌝ }
-{
-    let a = r_Suffix_Noun_Step2a(env);
-    let b = or_Step2b(a);
-    let c = or_Step2c1(b);
-    or_nothing(c)
-}
-
-fn then_after_Step1a(t: Tried) -> Tried
-    requires { ⌜ Given t ⌝ }
-    ensures { λ r. ⌜ ((y : Try Cutting) → Gives t y → Gives r (andThen y afterStep1a)) ⌝ }
-{
-    if t.found {
-        let x = t.env;
-        return after_Step1a(x);
-    }
-    t
-}
-
 fn then_after_Step1b(t: Tried) -> Tried
     requires { ⌜ Given t ⌝ }
     ensures { λ r. ⌜ ((y : Try Cutting) → Gives t y → Gives r (andThen y afterStep1b)) ⌝ }
@@ -81,18 +58,6 @@ fn then_after_Step1b(t: Tried) -> Tried
         return after_Step1b(x);
     }
     t
-}
-
-// If the word is open, Step1a and what follows it.
-fn by_Step1a(env: Env, b_is_defined: bool) -> Tried
-    requires { ⌜ Ready env ⌝ }
-    ensures { λ r. ⌜ ((v : Cutting) → Ends env v → Gives r (byStep1a (kindOf «b_is_defined») v)) ⌝ }
-{
-    if b_is_defined {
-        return Tried { found: false, env };
-    }
-    let a = r_Suffix_Noun_Step1a(env);
-    then_after_Step1a(a)
 }
 
 // Step1b and what follows it. Where that fails the cut of Step1b stays.
@@ -115,7 +80,7 @@ fn open_Step2a(env: Env, b_is_defined: bool) -> Tried
     r_Suffix_Noun_Step2a(env)
 }
 
-// The first alternative that succeeds; the last one always does.
+// The first alternative that succeeds; the last one always does. The Rust's second one, Step1a with its sequel, is left out.
 fn first_cut(env: Env, b_is_defined: bool) -> Tried
     requires { ⌜ Ready env ⌝ }
     ensures { λ r. ⌜ (r .found ≡ true) × ((v : Cutting) → Ends env v → Gives r (nounFirst (kindOf «b_is_defined») v)) ⌝ }
@@ -125,23 +90,18 @@ fn first_cut(env: Env, b_is_defined: bool) -> Tried
         return a;
     }
     let x = a.env;
-    let b = by_Step1a(x, b_is_defined);
+    let b = by_Step1b(x);
     if b.found {
         return b;
     }
     let y = b.env;
-    let c = by_Step1b(y);
+    let c = open_Step2a(y, b_is_defined);
     if c.found {
         return c;
     }
     let z = c.env;
-    let d = open_Step2a(z, b_is_defined);
-    if d.found {
-        return d;
-    }
-    let u = d.env;
-    let e = r_Suffix_Noun_Step2b(u);
-    or_nothing(e)
+    let d = r_Suffix_Noun_Step2b(z);
+    or_nothing(d)
 }
 
 // The noun: its first alternative, and then Step3.

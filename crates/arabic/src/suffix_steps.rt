@@ -1,4 +1,4 @@
-// The steps of item 3, each under its Rust name: eleven that cut, each a table and its guards by class, and the last 0649.
+// The steps of item 3, each under its Rust name: ten that cut, each a table and its guards by class, and the last 0649.
 use crate::suffix_halves::cut_ending;
 use crate::suffix_halves::ending;
 use crate::tables;
@@ -6,7 +6,7 @@ use crate::tried::Tried;
 use snowball::among::find_among_b;
 use snowball::env::Env;
 ghost use Rattle.definition.specs.Words.{Word};
-ghost use Rattle.definition.specs.Endings.{Cutting, cut, verbStep1, verbStep2a, verbStep2b, verbStep2c, nounStep1a, nounStep1b, nounStep2a, nounStep2b, nounStep2c1, nounStep2c2, nounStep3, suffixAllAlefMaqsura};
+ghost use Rattle.definition.specs.Endings.{Cutting, cut, verbStep1, verbStep2a, verbStep2b, verbStep2c, nounStep1b, nounStep2a, nounStep2b, nounStep2c1, nounStep2c2, nounStep3, suffixAllAlefMaqsura};
 ghost use Rattle.snowball.specs.Stands.{Stands};
 ghost use Rattle.arabic.specs.Endings.{Ends, Ready, Gives, atEnd};
 
@@ -78,22 +78,7 @@ pub fn r_Suffix_Verb_Step2c(env: Env) -> Tried
     cut_ending(env, place)
 }
 
-pub fn r_Suffix_Noun_Step1a(env: Env) -> Tried
-    requires { ⌜ Ready env ⌝ }
-    ensures { λ r. ⌜ ((v : Cutting) → Ends env v → Gives r (cut nounStep1a v)) ⌝ }
-{
-    let limit = env.limit;
-    let place = ending(
-        &env.current,
-        limit,
-        &tables::A_10_ROWS,
-        &tables::A_10_LENS,
-        &tables::A_10_LINKS,
-        &tables::A_10_CLASSES,
-        &[4, 5, 6],
-    );
-    cut_ending(env, place)
-}
+// r_Suffix_Noun_Step1a of the Rust, with its table A_10, is left out: it cuts in no word, as the crate old_noun shows.
 
 pub fn r_Suffix_Noun_Step1b(env: Env) -> Tried
     requires { ⌜ Ready env ⌝ }

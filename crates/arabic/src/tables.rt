@@ -1,4 +1,4 @@
-// The tables A_1 to A_21 of arabic.rs: of each row the bytes, their number, the link and the class. A_0 has a file of its own.
+// The tables A_1 to A_9 and A_11 to A_21 of arabic.rs: of each row the bytes, their number, the link and the class. A_0 has a file of its own.
 use snowball::among::NONE;
 
 pub const A_1_ROWS: [[u8; 6]; 5] = [
@@ -114,24 +114,7 @@ pub const A_9_LINKS: [u8; 3] = [NONE, NONE, NONE];
 
 pub const A_9_CLASSES: [u8; 3] = [1, 1, 1];
 
-pub const A_10_ROWS: [[u8; 6]; 10] = [
-    [0xD9, 0x83, 0, 0, 0, 0],
-    [0xD9, 0x83, 0xD9, 0x85, 0, 0],
-    [0xD9, 0x87, 0xD9, 0x85, 0, 0],
-    [0xD9, 0x87, 0xD9, 0x86, 0, 0],
-    [0xD9, 0x87, 0, 0, 0, 0],
-    [0xD9, 0x8A, 0, 0, 0, 0],
-    [0xD9, 0x83, 0xD9, 0x85, 0xD8, 0xA7],
-    [0xD9, 0x87, 0xD9, 0x85, 0xD8, 0xA7],
-    [0xD9, 0x86, 0xD8, 0xA7, 0, 0],
-    [0xD9, 0x87, 0xD8, 0xA7, 0, 0],
-];
-
-pub const A_10_LENS: [u8; 10] = [2, 4, 4, 4, 2, 2, 6, 6, 4, 4];
-
-pub const A_10_LINKS: [u8; 10] = [NONE, NONE, NONE, NONE, NONE, NONE, NONE, NONE, NONE, NONE];
-
-pub const A_10_CLASSES: [u8; 10] = [1, 2, 2, 2, 1, 1, 3, 3, 2, 2];
+// A_10 of the Rust is left out: its step, r_Suffix_Noun_Step1a, cuts in no word, as the crate old_noun shows.
 
 pub const A_11_ROWS: [[u8; 6]; 1] = [[0xD9, 0x86, 0, 0, 0, 0]];
 

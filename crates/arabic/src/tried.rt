@@ -29,7 +29,7 @@ pub fn least_letters(guards: &[u8], class: u8) -> usize
 }
 
 // The last alternative, which always succeeds: the end of the noun's `try`, and in place of the Rust's `next` behind the verb's
-// Step1 and the noun's Step1a (docs/DECISIONS.md, 18).
+// Step1 (docs/DECISIONS.md, 18).
 pub fn or_nothing(t: Tried) -> Tried
     requires { ⌜ Given t ⌝ }
     ensures { λ r. ⌜ (r .found ≡ true) × ((y : Try Cutting) → Gives t y → Gives r (ifFailed y nothing)) ⌝ }

@@ -10,11 +10,11 @@ use lib.ListN.{length, take, length-append}
 use lib.Seq.{take-at}
 use borrow.Author.Tests.{leb-true}
 use Rattle.definition.specs.Words.{Word, both, every, endsWith}
-use Rattle.definition.specs.Tables.{Row, «A_10», «A_11», «A_12», «A_13», «A_14», «A_15», «A_16», «A_17», «A_18», «A_19», «A_20»}
+use Rattle.definition.specs.Tables.{Row, «A_11», «A_12», «A_13», «A_14», «A_15», «A_16», «A_17», «A_18», «A_19», «A_20»}
 use Rattle.definition.specs.Search.{rowAt, leastLetters, taken}
 use Rattle.definition.specs.Tries.{after, nothing}
 use Rattle.definition.specs.Kind.{Kind}
-use Rattle.definition.specs.Endings.{SuffixStep, verbStep1, verbStep2a, verbStep2b, verbStep2c, nounStep1a, nounStep1b, nounStep2a, nounStep2b, nounStep2c1, nounStep2c2, nounStep3, suffix, Cut, Cutting, ending, joined, cutOff, cutBy, cut, verb, noun, endings, uncut}
+use Rattle.definition.specs.Endings.{SuffixStep, verbStep1, verbStep2a, verbStep2b, verbStep2c, nounStep1b, nounStep2a, nounStep2b, nounStep2c1, nounStep2c2, nounStep3, suffix, Cut, Cutting, ending, joined, cutOff, cutBy, cut, verb, noun, endings, uncut}
 use Rattle.definition.specs.Stem.{without}
 use Rattle.definition.specs.Demand3.{CutFrom, CutInTurn}
 use Rattle.definition.proofs.Match.{both-0, both-1, ends-split}
@@ -27,7 +27,6 @@ Nominal verbStep1 = ⊥
 Nominal verbStep2a = ⊥
 Nominal verbStep2b = ⊥
 Nominal verbStep2c = ⊥
-Nominal nounStep1a = Unit {0}
 Nominal nounStep1b = Unit {0}
 Nominal nounStep2a = Unit {0}
 Nominal nounStep2b = Unit {0}
@@ -46,12 +45,8 @@ noun-keeps P cut-keeps k =
     (keeps-first P _ (
       cut-keeps nounStep2c2 tt,
       (
-        keeps-if P k _ (keeps-then P _ _ (cut-keeps nounStep1a tt)
-            (keeps-first P _ (cut-keeps nounStep2a tt, (cut-keeps nounStep2b tt, (cut-keeps nounStep2c1 tt, (nothing-keeps P, tt)))))),
-        (
-          keeps-then P _ _ (cut-keeps nounStep1b tt) (keeps-first P _ (cut-keeps nounStep2a tt, (cut-keeps nounStep2b tt, (cut-keeps nounStep2c1 tt, tt)))),
-          (keeps-if P k _ (cut-keeps nounStep2a tt), (cut-keeps nounStep2b tt, (nothing-keeps P, tt))),
-        ),
+        keeps-then P _ _ (cut-keeps nounStep1b tt) (keeps-first P _ (cut-keeps nounStep2a tt, (cut-keeps nounStep2b tt, (cut-keeps nounStep2c1 tt, tt)))),
+        (keeps-if P k _ (cut-keeps nounStep2a tt), (cut-keeps nounStep2b tt, (nothing-keeps P, tt))),
       ),
     ))
     (cut-keeps nounStep3 tt)
@@ -78,12 +73,11 @@ abbrev fits : List ℕ → Row → Bool
 fits least k = both (leb 1 (length (k .letters))) (leb (length (k .letters) + 2) (leastLetters least (k .class)))
 
 rows-fit : (s : SuffixStep) → every (fits (suffix s .guards)) (suffix s .table) ≡ true
-unfolding suffix «A_10» «A_11» «A_12» «A_13» «A_14» «A_15» «A_16» «A_17» «A_18» «A_19» «A_20»
+unfolding suffix «A_11» «A_12» «A_13» «A_14» «A_15» «A_16» «A_17» «A_18» «A_19» «A_20»
 rows-fit verbStep1 = refl
 rows-fit verbStep2a = refl
 rows-fit verbStep2b = refl
 rows-fit verbStep2c = refl
-rows-fit nounStep1a = refl
 rows-fit nounStep1b = refl
 rows-fit nounStep2a = refl
 rows-fit nounStep2b = refl

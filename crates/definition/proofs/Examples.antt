@@ -4,7 +4,7 @@ use mathlib.Core.List.{map}
 use Rattle.definition.specs.Words.{same, beginsWith, endsWith}
 use Rattle.definition.specs.Search.{longer, longest, met, taken}
 use Rattle.definition.specs.Tries.{_thenTry_, firstOf, again, attempt}
-use Rattle.definition.specs.Tables.{«A_0», «A_3», «A_4», «A_5», «A_6», «A_7», «A_8», «A_9», «A_10», «A_11», «A_12», «A_13», «A_14», «A_15», «A_16», «A_17», «A_18», «A_19», «A_20»}
+use Rattle.definition.specs.Tables.{«A_0», «A_3», «A_4», «A_5», «A_6», «A_7», «A_8», «A_9», «A_11», «A_12», «A_13», «A_14», «A_15», «A_16», «A_17», «A_18», «A_19», «A_20»}
 use Rattle.definition.specs.Kind.{kind}
 use Rattle.definition.specs.Normal.{gives, listedFor, given, normal, normalise}
 use Rattle.definition.specs.Endings.{suffix, ending, cutOff, cut, verb, noun, endings, suffixAllAlefMaqsura, maqsuraIfFailed}
@@ -14,5 +14,5 @@ use Rattle.definition.specs.Stem.{cutting, fronting, stemOf, stem, cuts,
 use Rattle.definition.specs.Examples.{computed, twelve, work, examples, samples, normalised, normalSamples}
 
 pub examples-right : (map computed twelve ≡ twelve) × (map work examples ≡ examples) × (map computed samples ≡ samples) × (map normalised normalSamples ≡ normalSamples)
-unfolding same beginsWith endsWith longer longest met taken _thenTry_ firstOf again attempt «A_0» «A_3» «A_4» «A_5» «A_6» «A_7» «A_8» «A_9» «A_10» «A_11» «A_12» «A_13» «A_14» «A_15» «A_16» «A_17» «A_18» «A_19» «A_20» kind gives listedFor given normal normalise suffix ending cutOff cut verb noun endings suffixAllAlefMaqsura maqsuraIfFailed prefix replacements notAt frontRow replacement change apply prefixSteps started fronts last other finish cutting fronting stemOf stem cuts chain applied computed twelve work examples samples normalised normalSamples
+unfolding same beginsWith endsWith longer longest met taken _thenTry_ firstOf again attempt «A_0» «A_3» «A_4» «A_5» «A_6» «A_7» «A_8» «A_9» «A_11» «A_12» «A_13» «A_14» «A_15» «A_16» «A_17» «A_18» «A_19» «A_20» kind gives listedFor given normal normalise suffix ending cutOff cut verb noun endings suffixAllAlefMaqsura maqsuraIfFailed prefix replacements notAt frontRow replacement change apply prefixSteps started fronts last other finish cutting fronting stemOf stem cuts chain applied computed twelve work examples samples normalised normalSamples
 examples-right = (refl, refl, refl, refl)

@@ -12,7 +12,7 @@ pub mod Triples
 pub mod Tried
 pub mod Cutting
 pub mod Cover
-pub mod Step1a
+pub mod Verb
 pub mod Again
 pub mod NoonAlef
 pub mod FrontRows

@@ -15,7 +15,7 @@ use Rattle.definition.specs.Endings.{SuffixStep, Cutting, cut, endings, 
 use Rattle.definition.specs.Finish.{last, other, finish}
 use Rattle.definition.specs.Stem.{cutting, stem}
 use Rattle.definition.specs.Demand3.{Demand3}
-use Rattle.definition.specs.Facts.{Longest, distinct, allTables, replaced, Idle, AllSteps, notStep1a, AllCuts, NotNoonAlef, cutWord}
+use Rattle.definition.specs.Facts.{Longest, distinct, allTables, replaced, Idle, AllCuts, NotNoonAlef, cutWord}
 use Rattle.definition.specs.Examples.{computed, twelve, work, examples, samples, normalised, normalSamples}
 use Rattle.definition.specs.Listed.{EveryClassListed}
 use Rattle.definition.proofs.Examples.{examples-right}
@@ -24,7 +24,6 @@ use Rattle.definition.proofs.Listed.{every-class-listed}
 use Rattle.definition.proofs.Rows.{last-rows, other-rows, maqsura-row}
 use Rattle.definition.proofs.Leave.{all-endings}
 use Rattle.definition.proofs.Unique.{rigid-front, rigid-end, longest-is, distinct-all}
-use Rattle.definition.proofs.Step1a.{no-step1a}
 use Rattle.definition.proofs.Again.{again-ends}
 use Rattle.definition.proofs.NoonAlef.{no-noon-alef}
 use Rattle.definition.proofs.Only.{demand3-only, no-cuts}
@@ -70,17 +69,13 @@ pub main-end : (w : Word) (t : Table) → distinct t ≡ true → (r : ℕ) → 
     → Longest (endsWith w) t r → longest (endsWith w) t ≡ r
 main-end w t d = longest-is (endsWith w) t d (rigid-end w)
 
--- all 22 tables are such tables
+-- all 21 tables are such tables
 pub main-distinct : every distinct allTables ≡ true
 main-distinct = distinct-all
 
 -- a step that is repeated as often as the word has letters ends where it takes no row
 pub main-again : (s : SuffixStep) (n : ℕ) (v : Cutting) → length (v .text) ≤ n → (x : Cutting) × (again n (cut s) v ≡ done x) × Idle s x
 main-again = again-ends
-
--- the noun's Step1a cuts in no word
-pub main-step1a : (k : Kind) (n : Word) → AllSteps notStep1a (cutting k n .cuts)
-main-step1a = no-step1a
 
 -- the row 0646 0627 of the verb's Step2a cuts in no word
 pub main-noon-alef : (k : Kind) (n : Word) → AllCuts NotNoonAlef (cutting k n .cuts)

@@ -12,7 +12,7 @@ use Rattle.definition.specs.Tables.{«A_17», «A_18»}
 use Rattle.definition.specs.Search.{longer, longest, taken}
 use Rattle.definition.specs.Tries.{Try, nothing, _thenTry_, firstOf, again}
 use Rattle.definition.specs.Kind.{Kind, ifOpen}
-use Rattle.definition.specs.Endings.{SuffixStep, verbStep1, verbStep2a, verbStep2b, verbStep2c, nounStep1a, nounStep1b, nounStep2a, nounStep2b, nounStep2c1, nounStep2c2, nounStep3, suffix, Cutting, cutOff, cutBy, cut, afterVerbStep1, verb, noun, endings, uncut}
+use Rattle.definition.specs.Endings.{SuffixStep, verbStep1, verbStep2a, verbStep2b, verbStep2c, nounStep1b, nounStep2a, nounStep2b, nounStep2c1, nounStep2c2, nounStep3, suffix, Cutting, cutOff, cutBy, cut, afterVerbStep1, verb, noun, endings, uncut}
 use Rattle.definition.specs.Stem.{cutting}
 use Rattle.definition.specs.Facts.{Idle, AllCuts, noonAlef, NotNoonAlef}
 use Rattle.definition.proofs.Found.{taken-some}
@@ -102,7 +102,6 @@ no-noon-alef k n = ends-after Spared (endings k n)
     noun-cuts verbStep2a z = absurd z
     noun-cuts verbStep2b z = absurd z
     noun-cuts verbStep2c z = absurd z
-    noun-cuts nounStep1a t = cut-spares nounStep1a (λ r. tt)
     noun-cuts nounStep1b t = cut-spares nounStep1b (λ r. tt)
     noun-cuts nounStep2a t = cut-spares nounStep2a (λ r. tt)
     noun-cuts nounStep2b t = cut-spares nounStep2b (λ r. tt)

@@ -1,4 +1,4 @@
--- The search's answer is the only row that matches and is longest, in every table whose rows differ; all 22 are such tables. Assumes nothing.
+-- The search's answer is the only row that matches and is longest, in every table whose rows differ; all 21 are such tables. Assumes nothing.
 use mathlib.Core.Path.{_≡_, refl, sym, ap, _∙_}
 use mathlib.Core.Bool.{Bool, true, false≢true, not}
 use mathlib.Core.Logic.{inl, inr}
@@ -9,7 +9,7 @@ use lib.Dec.{leb}
 use lib.ListN.{length, take, drop}
 use borrow.Author.Tests.{leb-true, le-leb, lt-leb, not-true}
 use Rattle.definition.specs.Words.{Word, pick, every, same, beginsWith, endsWith}
-use Rattle.definition.specs.Tables.{Row, Table, «A_0», «A_1», «A_2», «A_3», «A_4», «A_5», «A_6», «A_7», «A_8», «A_9», «A_10», «A_11», «A_12», «A_13», «A_14», «A_15», «A_16», «A_17», «A_18», «A_19», «A_20», «A_21»}
+use Rattle.definition.specs.Tables.{Row, Table, «A_0», «A_1», «A_2», «A_3», «A_4», «A_5», «A_6», «A_7», «A_8», «A_9», «A_11», «A_12», «A_13», «A_14», «A_15», «A_16», «A_17», «A_18», «A_19», «A_20», «A_21»}
 use Rattle.definition.specs.Search.{rowAt, longer, longest}
 use Rattle.definition.specs.Facts.{Longest, distinct, allTables}
 use Rattle.definition.proofs.Match.{both-0, both-1, by, same-eq, same-refl}
@@ -95,5 +95,5 @@ longest-at match (k ∷ t) (suc r) h m a l =
 
 -- all tables pass the test
 pub distinct-all : every distinct allTables ≡ true
-unfolding «A_0» «A_1» «A_2» «A_3» «A_4» «A_5» «A_6» «A_7» «A_8» «A_9» «A_10» «A_11» «A_12» «A_13» «A_14» «A_15» «A_16» «A_17» «A_18» «A_19» «A_20» «A_21» same
+unfolding «A_0» «A_1» «A_2» «A_3» «A_4» «A_5» «A_6» «A_7» «A_8» «A_9» «A_11» «A_12» «A_13» «A_14» «A_15» «A_16» «A_17» «A_18» «A_19» «A_20» «A_21» same
 distinct-all = refl

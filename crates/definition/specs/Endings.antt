@@ -1,4 +1,4 @@
--- Item 3 of document 01: the endings, and the chain of the rows that are cut.
+-- Item 3 of document 01: the endings, and the chain of the rows that are cut. The noun's Step1a is left out: it cuts in no word (crate old_noun).
 use Prim.Native.Nat.{ℕ, _-_}
 use mathlib.Core.List.{List, [], _∷_, _++_}
 use mathlib.Core.Option.{Option, none, some}
@@ -6,15 +6,15 @@ use lib.Dec.{eqb}
 use lib.ListN.{length, take}
 use Rattle.definition.specs.Letters.{alefMaksura, yeh}
 use Rattle.definition.specs.Words.{Word, pick, endsWith}
-use Rattle.definition.specs.Tables.{«A_10», «A_11», «A_12», «A_13», «A_14», «A_15», «A_16», «A_17», «A_18», «A_19», «A_20»}
+use Rattle.definition.specs.Tables.{«A_11», «A_12», «A_13», «A_14», «A_15», «A_16», «A_17», «A_18», «A_19», «A_20»}
 use Rattle.definition.specs.Search.{Rule, rule, rowAt, taken}
 use Rattle.definition.specs.Tries.{Step, Try, done, failed, after, nothing, _thenTry_, inTurn, firstOf, again}
 use Rattle.definition.specs.Kind.{Kind, ifOpen}
 
--- r_Suffix_Verb_Step1 to r_Suffix_Verb_Step2c, r_Suffix_Noun_Step1a to r_Suffix_Noun_Step3
+-- r_Suffix_Verb_Step1 to r_Suffix_Verb_Step2c, r_Suffix_Noun_Step1b to r_Suffix_Noun_Step3
 pub data SuffixStep : Type 0 where
   verbStep1 verbStep2a verbStep2b verbStep2c : SuffixStep
-  nounStep1a nounStep1b nounStep2a nounStep2b nounStep2c1 nounStep2c2 nounStep3 : SuffixStep
+  nounStep1b nounStep2a nounStep2b nounStep2c1 nounStep2c2 nounStep3 : SuffixStep
 
 -- each step's table, and its guards by class
 unfoldable pub suffix : SuffixStep → Rule
@@ -22,7 +22,6 @@ suffix verbStep1 = rule «A_17» (4 ∷ 5 ∷ 6 ∷ [])
 suffix verbStep2a = rule «A_18» (4 ∷ 4 ∷ 5 ∷ 6 ∷ 6 ∷ [])
 suffix verbStep2b = rule «A_19» (5 ∷ [])
 suffix verbStep2c = rule «A_20» (4 ∷ 6 ∷ [])
-suffix nounStep1a = rule «A_10» (4 ∷ 5 ∷ 6 ∷ [])
 suffix nounStep1b = rule «A_11» (6 ∷ [])
 suffix nounStep2a = rule «A_12» (5 ∷ [])
 suffix nounStep2b = rule «A_13» (5 ∷ [])
@@ -85,13 +84,6 @@ verb v = firstOf (verbChoices (inTurn (verbStep1InTurn (length (v .text)) (first
 
 -- ---- the noun
 
--- after Step1a: 2a, 2b, 2c1 or nothing
-abbrev pub afterNounStep1a : List (Step Cutting)
-afterNounStep1a = cut nounStep2a ∷ cut nounStep2b ∷ cut nounStep2c1 ∷ nothing ∷ []
-
-abbrev pub nounStep1aInTurn : Step Cutting → List (Step Cutting)
-nounStep1aInTurn sequel = cut nounStep1a ∷ sequel ∷ []
-
 -- after Step1b: 2a, 2b or 2c1
 abbrev pub afterNounStep1b : List (Step Cutting)
 afterNounStep1b = cut nounStep2a ∷ cut nounStep2b ∷ cut nounStep2c1 ∷ []
@@ -99,18 +91,19 @@ afterNounStep1b = cut nounStep2a ∷ cut nounStep2b ∷ cut nounStep2c1 ∷ []
 abbrev pub nounStep1bInTurn : Step Cutting → List (Step Cutting)
 nounStep1bInTurn sequel = cut nounStep1b ∷ sequel ∷ []
 
--- first of: Step2c2; if open, Step1a with its sequel; Step1b with its sequel; if open, 2a; 2b; none
-abbrev pub nounChoices : Kind → Step Cutting → Step Cutting → List (Step Cutting)
-nounChoices k step1a step1b = cut nounStep2c2 ∷ ifOpen k step1a ∷ step1b ∷ ifOpen k (cut nounStep2a) ∷ cut nounStep2b ∷ nothing ∷ []
+abbrev pub nounByStep1b : Step Cutting
+nounByStep1b = inTurn (nounStep1bInTurn (firstOf afterNounStep1b))
+
+-- first of: Step2c2; Step1b with its sequel; if open, 2a; 2b; none
+abbrev pub nounChoices : Kind → Step Cutting → List (Step Cutting)
+nounChoices k step1b = cut nounStep2c2 ∷ step1b ∷ ifOpen k (cut nounStep2a) ∷ cut nounStep2b ∷ nothing ∷ []
 
 -- then Step3
 abbrev pub nounInTurn : Step Cutting → List (Step Cutting)
 nounInTurn choice = choice ∷ cut nounStep3 ∷ []
 
 unfoldable pub noun : Kind → Step Cutting
-noun k = inTurn (nounInTurn (firstOf (nounChoices k
-    (inTurn (nounStep1aInTurn (firstOf afterNounStep1a)))
-    (inTurn (nounStep1bInTurn (firstOf afterNounStep1b))))))
+noun k = inTurn (nounInTurn (firstOf (nounChoices k nounByStep1b)))
 
 -- ---- verb and noun
 

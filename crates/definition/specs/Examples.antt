@@ -115,6 +115,7 @@ samples =
     ∷ sample (lam ∷ lam ∷ dal ∷ reh ∷ []) (lam ∷ lam ∷ dal ∷ reh ∷ []) DEFINED
     ∷ sample (kaf ∷ alef ∷ lam ∷ dal ∷ reh ∷ []) (kaf ∷ alef ∷ lam ∷ dal ∷ reh ∷ []) DEFINED
     -- the verb's Step1
+    ∷ sample (dal ∷ reh ∷ kaf ∷ meem ∷ []) (dal ∷ reh ∷ kaf ∷ meem ∷ []) OPEN
     ∷ sample (dal ∷ reh ∷ kaf ∷ noon ∷ []) (dal ∷ reh ∷ kaf ∷ []) OPEN
     ∷ sample (dal ∷ reh ∷ noon ∷ alef ∷ []) (dal ∷ reh ∷ noon ∷ alef ∷ []) OPEN
     ∷ sample (dal ∷ reh ∷ noon ∷ yeh ∷ []) (dal ∷ reh ∷ noon ∷ []) OPEN
@@ -149,8 +150,6 @@ samples =
     -- Step2c
     ∷ sample (dal ∷ reh ∷ waw ∷ heh ∷ alef ∷ []) (dal ∷ reh ∷ waw ∷ []) OPEN
     ∷ sample (dal ∷ reh ∷ hah ∷ waw ∷ heh ∷ alef ∷ []) (dal ∷ reh ∷ hah ∷ []) OPEN
-    -- the noun's Step1a
-    ∷ sample (dal ∷ reh ∷ kaf ∷ meem ∷ []) (dal ∷ reh ∷ kaf ∷ meem ∷ []) OPEN
     -- the noun's Step2a
     ∷ sample (dal ∷ reh ∷ teh ∷ meem ∷ alef ∷ []) (dal ∷ reh ∷ teh ∷ meem ∷ []) OPEN
     -- Step2b

@@ -1,4 +1,4 @@
--- What the main theorems beside demand 3 speak of: searches and tables, letters that rows give, and steps that cut in no word.
+-- What the main theorems beside demand 3 speak of: searches and tables, letters that rows give, and a row that cuts in no word.
 use mathlib.Core.Path.{_≡_}
 use mathlib.Core.Bool.{Bool, true, not}
 use mathlib.Core.List.{List, [], _∷_}
@@ -8,9 +8,9 @@ use lib.Dec.{leb}
 use lib.ListN.{length, getD}
 use Rattle.definition.specs.Letters.{alef, beh, teh, kaf, heh}
 use Rattle.definition.specs.Words.{Word, both, every, same, beginsWith, endsWith}
-use Rattle.definition.specs.Tables.{Row, Table, «A_0», «A_1», «A_2», «A_3», «A_4», «A_5», «A_6», «A_7», «A_8», «A_9», «A_10», «A_11», «A_12», «A_13», «A_14», «A_15», «A_16», «A_17», «A_18», «A_19», «A_20», «A_21»}
+use Rattle.definition.specs.Tables.{Row, Table, «A_0», «A_1», «A_2», «A_3», «A_4», «A_5», «A_6», «A_7», «A_8», «A_9», «A_11», «A_12», «A_13», «A_14», «A_15», «A_16», «A_17», «A_18», «A_19», «A_20», «A_21»}
 use Rattle.definition.specs.Search.{rowAt, longest, taken}
-use Rattle.definition.specs.Endings.{SuffixStep, verbStep1, verbStep2a, verbStep2b, verbStep2c, nounStep1a, nounStep1b, nounStep2a, nounStep2b, nounStep2c1, nounStep2c2, nounStep3, suffix, Cut, Cutting}
+use Rattle.definition.specs.Endings.{SuffixStep, verbStep1, verbStep2a, verbStep2b, verbStep2c, nounStep1b, nounStep2a, nounStep2b, nounStep2c1, nounStep2c2, nounStep3, suffix, Cut, Cutting}
 
 -- ---- searches and tables
 
@@ -23,10 +23,10 @@ abbrev pub distinct : Table → Bool
 distinct [] = true
 distinct (k ∷ t) = both (leb 1 (length (k .letters))) (both (every (λ (j : Row). not (same (k .letters) (j .letters))) t) (distinct t))
 
--- all 22
+-- all 21
 abbrev pub allTables : List Table
 allTables =
-    «A_0» ∷ «A_1» ∷ «A_2» ∷ «A_3» ∷ «A_4» ∷ «A_5» ∷ «A_6» ∷ «A_7» ∷ «A_8» ∷ «A_9» ∷ «A_10»
+    «A_0» ∷ «A_1» ∷ «A_2» ∷ «A_3» ∷ «A_4» ∷ «A_5» ∷ «A_6» ∷ «A_7» ∷ «A_8» ∷ «A_9»
     ∷ «A_11» ∷ «A_12» ∷ «A_13» ∷ «A_14» ∷ «A_15» ∷ «A_16» ∷ «A_17» ∷ «A_18» ∷ «A_19» ∷ «A_20» ∷ «A_21» ∷ []
 
 -- ---- letters and rows
@@ -40,25 +40,6 @@ replaced t letters c = getD (c ∷ letters) (rowAt t (longest (beginsWith (c ∷
 -- the step takes no row
 abbrev pub Idle : SuffixStep → Cutting → Type 0
 Idle s v = taken (endsWith (v .text)) (suffix s) (length (v .text)) ≡ none
-
--- P holds of the step of every cut
-abbrev pub AllSteps : (SuffixStep → Type 0) → List Cut → Type 0
-AllSteps P [] = Unit {0}
-AllSteps P (c ∷ cs) = P (c .step) × AllSteps P cs
-
--- any step but Step1a of the noun
-abbrev pub notStep1a : SuffixStep → Type 0
-notStep1a verbStep1 = Unit {0}
-notStep1a verbStep2a = Unit {0}
-notStep1a verbStep2b = Unit {0}
-notStep1a verbStep2c = Unit {0}
-notStep1a nounStep1a = ⊥
-notStep1a nounStep1b = Unit {0}
-notStep1a nounStep2a = Unit {0}
-notStep1a nounStep2b = Unit {0}
-notStep1a nounStep2c1 = Unit {0}
-notStep1a nounStep2c2 = Unit {0}
-notStep1a nounStep3 = Unit {0}
 
 -- P holds of the step and the row of every cut
 abbrev pub AllCuts : (SuffixStep → ℕ → Type 0) → List Cut → Type 0
@@ -75,7 +56,6 @@ NotNoonAlef verbStep1 r = Unit {0}
 NotNoonAlef verbStep2a r = r ≡ noonAlef → ⊥
 NotNoonAlef verbStep2b r = Unit {0}
 NotNoonAlef verbStep2c r = Unit {0}
-NotNoonAlef nounStep1a r = Unit {0}
 NotNoonAlef nounStep1b r = Unit {0}
 NotNoonAlef nounStep2a r = Unit {0}
 NotNoonAlef nounStep2b r = Unit {0}

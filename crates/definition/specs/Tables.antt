@@ -147,19 +147,7 @@ unfoldable pub «A_9» : Table
     ∷ three noon seen teh 1
     ∷ three yeh seen teh 1 ∷ []
 
--- r_Suffix_Noun_Step1a
-unfoldable pub «A_10» : Table
-«A_10» =
-    one kaf 1
-    ∷ two kaf meem 2
-    ∷ two heh meem 2
-    ∷ two heh noon 2
-    ∷ one heh 1
-    ∷ one yeh 1
-    ∷ three kaf meem alef 3
-    ∷ three heh meem alef 3
-    ∷ two noon alef 2
-    ∷ two heh alef 2 ∷ []
+-- There is no A_10: its step, r_Suffix_Noun_Step1a, cuts in no word, as the crate old_noun shows.
 
 -- r_Suffix_Noun_Step1b
 unfoldable pub «A_11» : Table

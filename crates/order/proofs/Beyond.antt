@@ -8,11 +8,11 @@ use Rattle.definition.specs.Words.{Word}
 use Rattle.definition.specs.Tries.{Step, Try, after, inTurn, firstOf, allOf}
 use Rattle.definition.specs.Kind.{Kind, kind}
 use Rattle.definition.specs.Normal.{normalise}
-use Rattle.definition.specs.Endings.{Cutting, uncut, afterVerbStep1, verbStep1InTurn, verbChoices, afterNounStep1a, nounStep1aInTurn, afterNounStep1b, nounStep1bInTurn, nounChoices, nounInTurn, allEndingChoices}
+use Rattle.definition.specs.Endings.{Cutting, uncut, afterVerbStep1, verbStep1InTurn, verbChoices, afterNounStep1b, nounStep1bInTurn, nounByStep1b, nounChoices, nounInTurn, allEndingChoices}
 use Rattle.definition.specs.Fronts.{Fronting, text, prefixStep3VerbInTurn, prefixStep3Choices, prefixesInTurn, started}
 use Rattle.definition.specs.Finish.{finishInTurn}
 use Rattle.definition.specs.Stem.{itemsInTurn, unchecked}
-use Rattle.order.specs.Order.{Place, way, ends, verbs, verbTurns, verbSequel, nounTurns, nouns, step1aTurns, step1aSequel, step1bTurns, step1bSequel, fronts, thirds, verbFronts, finishing, nowhere, pair, unexchanged, exchanged, ordered, fromHere, verbBy, nounBy, endingsBy, prefixStepsBy, finishBy, stemBy}
+use Rattle.order.specs.Order.{Place, way, ends, verbs, verbTurns, verbSequel, nounTurns, nouns, step1bTurns, step1bSequel, fronts, thirds, verbFronts, finishing, nowhere, pair, unexchanged, exchanged, ordered, fromHere, verbBy, nounBy, endingsBy, prefixStepsBy, finishBy, stemBy}
 use Rattle.order.specs.Settled.{Unshown, entries}
 use Rattle.order.proofs.Kept.{by-endings, by-fronts}
 use Rattle.order.proofs.Same.{same}
@@ -28,14 +28,8 @@ beyond (suc i) (f ∷ g ∷ fs) h = ap (λ (x : List _). f ∷ x) (beyond i (g �
 abbrev verb-with : (ℕ → Step Cutting) → Step Cutting
 verb-with g v = firstOf (verbChoices (g (length (v .text)))) v
 
-abbrev noun-with : Kind → Step Cutting → Step Cutting → Step Cutting
-noun-with k a b = inTurn (nounInTurn (firstOf (nounChoices k a b)))
-
-abbrev step1a : Step Cutting
-step1a = inTurn (nounStep1aInTurn (firstOf afterNounStep1a))
-
-abbrev step1b : Step Cutting
-step1b = inTurn (nounStep1bInTurn (firstOf afterNounStep1b))
+abbrev noun-with : Kind → Step Cutting → Step Cutting
+noun-with k g = inTurn (nounInTurn (firstOf (nounChoices k g)))
 
 abbrev with-verb : Kind → Word → Step Cutting → Try Cutting
 with-verb k n f = firstOf (allEndingChoices k f (nounBy unexchanged k)) (uncut n)
@@ -72,17 +66,13 @@ no-other verbTurns i h = by-endings (pair verbTurns i)
 no-other verbSequel i h = by-endings (pair verbSequel i)
     (λ k n j. with-verb k n (verb-with (λ (m : ℕ). inTurn (verbStep1InTurn m (firstOf (beyond i afterVerbStep1 h j)))))) (λ w. refl)
 no-other nounTurns i h = by-endings (pair nounTurns i)
-    (λ k n j. with-noun k n (inTurn (beyond i (nounInTurn (firstOf (nounChoices k step1a step1b))) h j))) (λ w. refl)
+    (λ k n j. with-noun k n (inTurn (beyond i (nounInTurn (firstOf (nounChoices k nounByStep1b))) h j))) (λ w. refl)
 no-other nouns i h = by-endings (pair nouns i)
-    (λ k n j. with-noun k n (inTurn (nounInTurn (firstOf (beyond i (nounChoices k step1a step1b) h j))))) (λ w. refl)
-no-other step1aTurns i h = by-endings (pair step1aTurns i)
-    (λ k n j. with-noun k n (noun-with k (inTurn (beyond i (nounStep1aInTurn (firstOf afterNounStep1a)) h j)) step1b)) (λ w. refl)
-no-other step1aSequel i h = by-endings (pair step1aSequel i)
-    (λ k n j. with-noun k n (noun-with k (inTurn (nounStep1aInTurn (firstOf (beyond i afterNounStep1a h j)))) step1b)) (λ w. refl)
+    (λ k n j. with-noun k n (inTurn (nounInTurn (firstOf (beyond i (nounChoices k nounByStep1b) h j))))) (λ w. refl)
 no-other step1bTurns i h = by-endings (pair step1bTurns i)
-    (λ k n j. with-noun k n (noun-with k step1a (inTurn (beyond i (nounStep1bInTurn (firstOf afterNounStep1b)) h j)))) (λ w. refl)
+    (λ k n j. with-noun k n (noun-with k (inTurn (beyond i (nounStep1bInTurn (firstOf afterNounStep1b)) h j)))) (λ w. refl)
 no-other step1bSequel i h = by-endings (pair step1bSequel i)
-    (λ k n j. with-noun k n (noun-with k step1a (inTurn (nounStep1bInTurn (firstOf (beyond i afterNounStep1b h j)))))) (λ w. refl)
+    (λ k n j. with-noun k n (noun-with k (inTurn (nounStep1bInTurn (firstOf (beyond i afterNounStep1b h j)))))) (λ w. refl)
 no-other fronts i h = by-fronts (pair fronts i)
     (λ k n. texts (λ j. inTurn (beyond i (prefixesInTurn (firstOf (step3-with k (inTurn prefixStep3VerbInTurn)))) h j) (started n))) (λ w. refl)
 no-other thirds i h = by-fronts (pair thirds i)

@@ -26,6 +26,11 @@ module _ {A : Type 0} where
   unfolding firstOf
   first-succeeds f fs a s = ap (λ (t : Try A). ifFailed t (firstOf fs)) (s .1)
 
+  -- what follows a clean step matters only where it fails
+  pub behind : (f : Step A) (fs gs : List (Step A)) (a : A) → Clean f a → firstOf fs a ≡ firstOf gs a → firstOf (f ∷ fs) a ≡ firstOf (f ∷ gs) a
+  behind f fs gs a (inl s) e = first-succeeds f fs a s ∙ sym (first-succeeds f gs a s)
+  behind f fs gs a (inr p) e = first-fails f fs a p ∙ e ∙ sym (first-fails f gs a p)
+
   pub one-fails : (f g : Step A) (fs : List (Step A)) (a : A) → Fails f a → Clean g a → firstOf (f ∷ g ∷ fs) a ≡ firstOf (g ∷ f ∷ fs) a
   one-fails f g fs a p (inl s) = first-fails f (g ∷ fs) a p ∙ first-succeeds g fs a s ∙ sym (first-succeeds g (f ∷ fs) a s)
   one-fails f g fs a p (inr q) = first-fails f (g ∷ fs) a p ∙ first-fails g fs a q ∙ sym (first-fails g (f ∷ fs) a q ∙ first-fails f fs a p)

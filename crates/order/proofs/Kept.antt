@@ -1,15 +1,14 @@
 -- The pairs that no word shows: the stem is the same with them exchanged. Assumes nothing.
 use mathlib.Core.Path.{_≡_, refl, ap, _∙_}
-use Prim.Native.Nat.{ℕ}
 use Rattle.definition.specs.Words.{Word}
 use Rattle.definition.specs.Tries.{Try, after}
 use Rattle.definition.specs.Kind.{Kind, kind}
 use Rattle.definition.specs.Normal.{normalise}
 use Rattle.definition.specs.Endings.{Cutting}
 use Rattle.definition.specs.Fronts.{Fronting, text, started}
-use Rattle.order.specs.Order.{Pair, pair, verbs, verbSequel, nouns, step1aSequel, step1bSequel, thirds, unexchanged, ordered, verbBy, nounBy, endingsBy, prefixStepsBy, finishBy, stemBy}
+use Rattle.order.specs.Order.{Pair, pair, verbs, verbSequel, nouns, step1bSequel, thirds, unexchanged, ordered, verbBy, nounBy, endingsBy, prefixStepsBy, finishBy, stemBy}
 use Rattle.order.specs.Settled.{Unshown}
-use Rattle.order.proofs.Endings.{verbs-0, verbSequel-0, nouns-0, nouns-1, nouns-2, nouns-3, step1aSequel-any, step1bSequel-0}
+use Rattle.order.proofs.Endings.{verbs-0, verbSequel-0, nouns-1, nouns-2, step1bSequel-0}
 use Rattle.order.proofs.Fronts.{thirds-0, thirds-1}
 use Rattle.order.proofs.Same.{same}
 
@@ -35,10 +34,6 @@ pub verbSequel-0-kept : Unshown (pair verbSequel 0)
 unfolding stemBy ordered prefixStepsBy finishBy
 verbSequel-0-kept = by-endings (pair verbSequel 0) verbSequel-0 (λ w. refl)
 
-pub nouns-0-kept : Unshown (pair nouns 0)
-unfolding stemBy ordered prefixStepsBy finishBy
-nouns-0-kept = by-endings (pair nouns 0) nouns-0 (λ w. refl)
-
 pub nouns-1-kept : Unshown (pair nouns 1)
 unfolding stemBy ordered prefixStepsBy finishBy
 nouns-1-kept = by-endings (pair nouns 1) nouns-1 (λ w. refl)
@@ -46,14 +41,6 @@ nouns-1-kept = by-endings (pair nouns 1) nouns-1 (λ w. refl)
 pub nouns-2-kept : Unshown (pair nouns 2)
 unfolding stemBy ordered prefixStepsBy finishBy
 nouns-2-kept = by-endings (pair nouns 2) nouns-2 (λ w. refl)
-
-pub nouns-3-kept : Unshown (pair nouns 3)
-unfolding stemBy ordered prefixStepsBy finishBy
-nouns-3-kept = by-endings (pair nouns 3) nouns-3 (λ w. refl)
-
-pub step1aSequel-kept : (i : ℕ) → Unshown (pair step1aSequel i)
-unfolding stemBy ordered prefixStepsBy finishBy
-step1aSequel-kept i = by-endings (pair step1aSequel i) (step1aSequel-any i) (λ w. refl)
 
 pub step1bSequel-0-kept : Unshown (pair step1bSequel 0)
 unfolding stemBy ordered prefixStepsBy finishBy

@@ -2,7 +2,7 @@
 use mathlib.Core.Path.{_≡_, refl}
 use mathlib.Core.List.{map}
 use lib.ListN.{getD}
-use Rattle.order.specs.Order.{Place, way, ends, verbs, verbTurns, verbSequel, nounTurns, nouns, step1aTurns, step1aSequel, step1bTurns, step1bSequel, fronts, thirds, verbFronts, finishing, nowhere, placeNumber}
+use Rattle.order.specs.Order.{Place, way, ends, verbs, verbTurns, verbSequel, nounTurns, nouns, step1bTurns, step1bSequel, fronts, thirds, verbFronts, finishing, nowhere, placeNumber}
 use Rattle.order.specs.Settled.{settled, neighbours, places, pairOf}
 
 pub places-all : (p : Place) → getD places (placeNumber p) nowhere ≡ p
@@ -13,8 +13,6 @@ places-all verbTurns = refl
 places-all verbSequel = refl
 places-all nounTurns = refl
 places-all nouns = refl
-places-all step1aTurns = refl
-places-all step1aSequel = refl
 places-all step1bTurns = refl
 places-all step1bSequel = refl
 places-all fronts = refl

@@ -6,7 +6,7 @@ use lib.ListN.{length}
 use Rattle.definition.specs.Words.{Word, pick}
 use Rattle.definition.specs.Tries.{Step, Try, done, failed, after, inTurn, firstOf, allOf}
 use Rattle.definition.specs.Kind.{Kind}
-use Rattle.definition.specs.Endings.{Cutting, uncut, afterVerbStep1, verbStep1InTurn, verbChoices, afterNounStep1a, nounStep1aInTurn, afterNounStep1b, nounStep1bInTurn, nounChoices, nounInTurn, allEndingChoices}
+use Rattle.definition.specs.Endings.{Cutting, uncut, afterVerbStep1, verbStep1InTurn, verbChoices, afterNounStep1b, nounStep1bInTurn, nounChoices, nounInTurn, allEndingChoices}
 use Rattle.definition.specs.Fronts.{Fronting, text, prefixStep3VerbInTurn, prefixStep3Choices, prefixesInTurn, started}
 use Rattle.definition.specs.Finish.{finishInTurn}
 use Rattle.definition.specs.Stem.{itemsInTurn, unchecked}
@@ -21,10 +21,8 @@ pub data Place : Type 0 where
   verbs : Place
   -- Step1 as often as it cuts, and its sequel; the first of: Step2a, Step2c, nothing
   verbTurns verbSequel : Place
-  -- what comes first, and Step3; the first of: Step2c2, Step1a and sequel, Step1b and sequel, Step2a, Step2b, nothing
+  -- what comes first, and Step3; the first of: Step2c2, Step1b and sequel, Step2a, Step2b, nothing
   nounTurns nouns : Place
-  -- Step1a and its sequel; the first of: Step2a, Step2b, Step2c1, nothing
-  step1aTurns step1aSequel : Place
   -- Step1b and its sequel; the first of: Step2a, Step2b, Step2c1
   step1bTurns step1bSequel : Place
   -- Step1, Step2, and what follows; the first of: Step3a_Noun, Step3b_Noun, the verb's fronts; Step3_Verb and Step4_Verb
@@ -42,15 +40,13 @@ placeNumber verbTurns = 3
 placeNumber verbSequel = 4
 placeNumber nounTurns = 5
 placeNumber nouns = 6
-placeNumber step1aTurns = 7
-placeNumber step1aSequel = 8
-placeNumber step1bTurns = 9
-placeNumber step1bSequel = 10
-placeNumber fronts = 11
-placeNumber thirds = 12
-placeNumber verbFronts = 13
-placeNumber finishing = 14
-placeNumber nowhere = 15
+placeNumber step1bTurns = 7
+placeNumber step1bSequel = 8
+placeNumber fronts = 9
+placeNumber thirds = 10
+placeNumber verbFronts = 11
+placeNumber finishing = 12
+placeNumber nowhere = 13
 
 -- two neighbours: their place, and the number of the first of them, from 0
 pub record Pair : Type 0 where
@@ -100,14 +96,11 @@ module _ (x : Pair) where
   verbBy v = firstOf (ordered x verbs (verbChoices (verbTurnsBy (length (v .text))))) v
 
   -- ---- the noun
-  abbrev pub step1aBy : Step Cutting
-  step1aBy = inTurn (ordered x step1aTurns (nounStep1aInTurn (firstOf (ordered x step1aSequel afterNounStep1a))))
-
   abbrev pub step1bBy : Step Cutting
   step1bBy = inTurn (ordered x step1bTurns (nounStep1bInTurn (firstOf (ordered x step1bSequel afterNounStep1b))))
 
   abbrev pub nounFirstBy : Kind → Step Cutting
-  nounFirstBy k = firstOf (ordered x nouns (nounChoices k step1aBy step1bBy))
+  nounFirstBy k = firstOf (ordered x nouns (nounChoices k step1bBy))
 
   unfoldable pub nounBy : Kind → Step Cutting
   nounBy k = inTurn (ordered x nounTurns (nounInTurn (nounFirstBy k)))

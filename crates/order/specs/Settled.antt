@@ -7,11 +7,11 @@ use lib.ListN.{length}
 use Rattle.definition.specs.Words.{Word, same}
 use Rattle.definition.specs.Tries.{nothing}
 use Rattle.definition.specs.Kind.{Kind, OPEN}
-use Rattle.definition.specs.Endings.{afterVerbStep1, verbStep1InTurn, verbChoices, afterNounStep1a, nounStep1aInTurn, afterNounStep1b, nounStep1bInTurn, nounChoices, nounInTurn, allEndingChoices}
+use Rattle.definition.specs.Endings.{afterVerbStep1, verbStep1InTurn, verbChoices, afterNounStep1b, nounStep1bInTurn, nounChoices, nounInTurn, allEndingChoices}
 use Rattle.definition.specs.Fronts.{prefixStep3VerbInTurn, prefixStep3Choices, prefixesInTurn}
 use Rattle.definition.specs.Finish.{finishInTurn}
 use Rattle.definition.specs.Stem.{itemsInTurn, stem}
-use Rattle.order.specs.Order.{Place, way, ends, verbs, verbTurns, verbSequel, nounTurns, nouns, step1aTurns, step1aSequel, step1bTurns, step1bSequel, fronts, thirds, verbFronts, finishing, nowhere, Pair, pair, stemBy}
+use Rattle.order.specs.Order.{Place, way, ends, verbs, verbTurns, verbSequel, nounTurns, nouns, step1bTurns, step1bSequel, fronts, thirds, verbFronts, finishing, nowhere, Pair, pair, stemBy}
 
 -- no word's stem changes
 abbrev pub Unshown : Pair → Type 0
@@ -47,7 +47,7 @@ settled =
     -- fronts | finishing
     ∷ shown way 3 (0x623 ∷ 0x623 ∷ 0x643 ∷ 0x644 ∷ []) (0x627 ∷ 0x643 ∷ 0x644 ∷ []) (0x627 ∷ 0x627 ∷ 0x643 ∷ 0x644 ∷ [])
     -- the verb | the noun
-    ∷ shown ends 0 (0x639 ∷ 0x644 ∷ 0x64A ∷ 0x647 ∷ []) (0x639 ∷ 0x644 ∷ 0x64A ∷ []) (0x639 ∷ 0x644 ∷ [])
+    ∷ shown ends 0 (0x633 ∷ 0x648 ∷ 0x631 ∷ 0x64A ∷ 0x627 ∷ []) (0x633 ∷ 0x648 ∷ 0x631 ∷ 0x64A ∷ []) (0x633 ∷ 0x648 ∷ 0x631 ∷ [])
     -- the noun | the last 0649
     ∷ shown ends 1 (0x642 ∷ 0x631 ∷ 0x649 ∷ 0x629 ∷ []) (0x642 ∷ 0x631 ∷ 0x64A ∷ []) (0x642 ∷ 0x631 ∷ 0x649 ∷ [])
     -- the verb: Step1 and its sequel | Step2b
@@ -62,22 +62,14 @@ settled =
     ∷ shown verbSequel 1 (0x643 ∷ 0x62A ∷ 0x628 ∷ 0x648 ∷ 0x647 ∷ []) (0x643 ∷ 0x62A ∷ 0x628 ∷ []) (0x643 ∷ 0x62A ∷ 0x628 ∷ 0x648 ∷ [])
     -- the noun: what comes first | Step3
     ∷ shown nounTurns 0 (0x643 ∷ 0x644 ∷ 0x645 ∷ 0x629 ∷ []) (0x643 ∷ 0x644 ∷ 0x645 ∷ []) (0x643 ∷ 0x644 ∷ 0x645 ∷ 0x629 ∷ [])
-    -- Step2c2 | Step1a
-    ∷ unshown nouns 0
-    -- Step1a | Step1b
-    ∷ unshown nouns 1
+    -- Step2c2 | Step1b
+    ∷ shown nouns 0 (0x627 ∷ 0x644 ∷ 0x633 ∷ 0x646 ∷ 0x629 ∷ 0x646 ∷ []) (0x633 ∷ 0x646 ∷ 0x629 ∷ []) (0x627 ∷ 0x644 ∷ 0x633 ∷ 0x646 ∷ [])
     -- Step1b | Step2a
-    ∷ unshown nouns 2
+    ∷ unshown nouns 1
     -- Step2a | Step2b
-    ∷ unshown nouns 3
+    ∷ unshown nouns 2
     -- Step2b | nothing
-    ∷ shown nouns 4 (0x627 ∷ 0x644 ∷ 0x630 ∷ 0x627 ∷ 0x62A ∷ []) (0x627 ∷ 0x644 ∷ 0x630 ∷ []) (0x630 ∷ 0x627 ∷ 0x62A ∷ [])
-    -- Step1a | its sequel
-    ∷ shown step1aTurns 0 (0x645 ∷ 0x648 ∷ 0x633 ∷ 0x643 ∷ 0x648 ∷ []) (0x645 ∷ 0x648 ∷ 0x633 ∷ 0x643 ∷ []) (0x645 ∷ 0x648 ∷ 0x633 ∷ [])
-    -- in the sequel: Step2a | Step2b | Step2c1 | nothing
-    ∷ unshown step1aSequel 0
-    ∷ unshown step1aSequel 1
-    ∷ unshown step1aSequel 2
+    ∷ shown nouns 3 (0x627 ∷ 0x644 ∷ 0x630 ∷ 0x627 ∷ 0x62A ∷ []) (0x627 ∷ 0x644 ∷ 0x630 ∷ []) (0x630 ∷ 0x627 ∷ 0x62A ∷ [])
     -- Step1b | its sequel
     ∷ shown step1bTurns 0 (0x627 ∷ 0x644 ∷ 0x633 ∷ 0x62A ∷ []) (0x627 ∷ 0x644 ∷ 0x633 ∷ 0x62A ∷ []) (0x627 ∷ 0x644 ∷ 0x633 ∷ [])
     -- in the sequel: Step2a | Step2b
@@ -108,9 +100,7 @@ entries verbs = length (verbChoices nothing)
 entries verbTurns = length (verbStep1InTurn 0 nothing)
 entries verbSequel = length afterVerbStep1
 entries nounTurns = length (nounInTurn nothing)
-entries nouns = length (nounChoices OPEN nothing nothing)
-entries step1aTurns = length (nounStep1aInTurn nothing)
-entries step1aSequel = length afterNounStep1a
+entries nouns = length (nounChoices OPEN nothing)
 entries step1bTurns = length (nounStep1bInTurn nothing)
 entries step1bSequel = length afterNounStep1b
 entries fronts = length (prefixesInTurn nothing)
@@ -131,7 +121,7 @@ neighbours (p ∷ ps) = pairsFrom p 0 (entries p - 1) ++ neighbours ps
 -- all places, each at its number
 abbrev pub places : List Place
 places =
-    way ∷ ends ∷ verbs ∷ verbTurns ∷ verbSequel ∷ nounTurns ∷ nouns ∷ step1aTurns ∷ step1aSequel ∷ step1bTurns ∷ step1bSequel ∷ fronts ∷ thirds ∷ verbFronts ∷ finishing ∷ []
+    way ∷ ends ∷ verbs ∷ verbTurns ∷ verbSequel ∷ nounTurns ∷ nouns ∷ step1bTurns ∷ step1bSequel ∷ fronts ∷ thirds ∷ verbFronts ∷ finishing ∷ []
 
 abbrev pub pairOf : Verdict → Pair
 pairOf (shown p i w s t) = pair p i
