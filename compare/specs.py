@@ -1,18 +1,18 @@
-"""Reads tables, clauses and examples out of the definition, crates/definition/specs, and the pairs out of crates/order/specs."""
+"""Reads tables, clauses, steps and examples out of the definition, crates/definition/specs, and the pairs out of crates/order/specs."""
 import os
 import re
 
 from source import HERE, fail, read
 
-SPECS = os.path.join(HERE, '..', 'crates', 'definition', 'specs')
+CRATES = os.path.join(HERE, '..', 'crates')
 
 
 def without_comments(text):
     return re.sub(r'--[^\n]*', '', text)
 
 
-def spec(name):
-    return without_comments(read(os.path.join(SPECS, name + '.antt')))
+def spec(name, crate='definition'):
+    return without_comments(read(os.path.join(CRATES, crate, 'specs', name + '.antt')))
 
 
 LETTERS = {m.group(1): int(m.group(2), 16) for m in re.finditer(r'^(\w+) = 0x([0-9A-F]+)$', spec('Letters'), re.M)}
@@ -52,12 +52,36 @@ def rule(text, left):
     return int(m.group(1)), numbers(m.group(2))
 
 
+def rules(text, function):
+    """The clauses of a function that are a `rule`, by the step: the number of the table, and the guards."""
+    return {name: rule(text, f'{function} {name}') for name in re.findall(rf'^{function} (\w+) = rule', text, re.M)}
+
+
+def tables(text):
+    """The tables of a text, by their numbers."""
+    return {int(n): rows_of(clause(text, f'«A_{n}»')) for n in re.findall(r'^«A_(\d+)» =', text, re.M)}
+
+
 def words_of(text):
     """A list of words: each `[]` or letters in parentheses."""
     if text.strip() == '[]':
         return []
     parts = re.findall(r'\(([^)]*)\)|\[\]', re.sub(r'∷ \[\]\s*$', '', text))
     return [[letter(w) for w in part.split() if w not in ('∷', '[]')] for part in parts]
+
+
+def gives():
+    """What the classes of A_0 give; a class that is not here gives nothing."""
+    return {k: letters for letters, k in rows_of(clause(spec('Normal'), 'gives'))}
+
+
+def steps():
+    """The steps of the definition: name, table, guards, replacements and exceptions. The kind check and the endings have neither of these two."""
+    fronts = spec('Fronts')
+    for name, (table, guards) in {'checks1': rule(spec('Kind'), 'kind w'), **rules(spec('Endings'), 'suffix')}.items():
+        yield name, table, guards, [], []
+    for name, (table, guards) in rules(fronts, 'prefix').items():
+        yield name, table, guards, words_of(clause(fronts, f'replacements {name}')), words_of(clause(fronts, f'notAt {name}'))
 
 
 def examples():
@@ -74,7 +98,7 @@ def examples():
 
 def settled_pairs():
     """The pairs of crates/order/specs/Settled.antt: each with its word, stem and exchanged stem, or with None where no word shows it."""
-    text = read(os.path.join(SPECS, '..', '..', 'order', 'specs', 'Settled.antt'))
+    text = spec('Settled', 'order')
     for m in re.finditer(r'^    (?:∷ )?(shown|unshown) (\w+ \d)(.*)$', text, re.M):
         words = [[int(h, 16) for h in re.findall(r'0x([0-9A-F]+)', w)] for w in re.findall(r'\(([^)]*)\)', m.group(3))]
         yield m.group(2), words if m.group(1) == 'shown' else None

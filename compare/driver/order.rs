@@ -14,7 +14,7 @@ fn pairs(keys: &'static [u16]) -> Vec<Model> {
     PLACES.iter().enumerate().flat_map(|(place, (_, count))| (0..count - 1).map(move |first| Model::new(keys, place, first, NO_STEP, 0))).collect()
 }
 
-/// A model without each row of A_3 to A_20.
+/// A model without each row of A_3 to A_20, but for A_10, which has no step here.
 fn shortened(keys: &'static [u16]) -> Vec<Model> {
     STEPS[..STEPS.len() - 1].iter().flat_map(|step| (0..step.rows.len()).map(move |row| Model::new(keys, NOWHERE, 0, step.number, row))).collect()
 }

@@ -20,9 +20,9 @@ pub struct Step {
 include!("tables.rs");
 
 /// The places where steps stand in an order, each with the number of its entries.
-pub const PLACES: [(&str, usize); 15] = [
-    ("way", 5), ("ends", 3), ("verbs", 3), ("verbTurns", 2), ("verbSequel", 3), ("nounTurns", 2), ("nouns", 6), ("step1aTurns", 2), ("step1aSequel", 4),
-    ("step1bTurns", 2), ("step1bSequel", 3), ("fronts", 3), ("thirds", 3), ("verbFronts", 2), ("finishing", 2),
+pub const PLACES: [(&str, usize); 13] = [
+    ("way", 5), ("ends", 3), ("verbs", 3), ("verbTurns", 2), ("verbSequel", 3), ("nounTurns", 2), ("nouns", 5), ("step1bTurns", 2), ("step1bSequel", 3),
+    ("fronts", 3), ("thirds", 3), ("verbFronts", 2), ("finishing", 2),
 ];
 pub const WAY: usize = 0;
 pub const ENDS: usize = 1;
@@ -31,15 +31,13 @@ pub const VERB_TURNS: usize = 3;
 pub const VERB_SEQUEL: usize = 4;
 pub const NOUN_TURNS: usize = 5;
 pub const NOUNS: usize = 6;
-pub const STEP1A_TURNS: usize = 7;
-pub const STEP1A_SEQUEL: usize = 8;
-pub const STEP1B_TURNS: usize = 9;
-pub const STEP1B_SEQUEL: usize = 10;
-pub const FRONTS: usize = 11;
-pub const THIRDS: usize = 12;
-pub const VERB_FRONTS: usize = 13;
-pub const FINISHING: usize = 14;
-pub const NOWHERE: usize = 15;
+pub const STEP1B_TURNS: usize = 7;
+pub const STEP1B_SEQUEL: usize = 8;
+pub const FRONTS: usize = 9;
+pub const THIRDS: usize = 10;
+pub const VERB_FRONTS: usize = 11;
+pub const FINISHING: usize = 12;
+pub const NOWHERE: usize = 13;
 
 pub const NO_STEP: usize = 99;
 pub const SIZE: usize = 600;
@@ -199,29 +197,20 @@ impl Model {
         self.in_turn(NOUN_TURNS, |m, i| match i {
             0 => m.first_of(NOUNS, |m, i| match i {
                 0 => m.cut(&SUFFIX_NOUN_STEP2C2),
-                1 => !m.defined && m.in_turn(STEP1A_TURNS, |m, i| match i {
-                    0 => m.cut(&SUFFIX_NOUN_STEP1A),
-                    _ => m.first_of(STEP1A_SEQUEL, Model::noun_sequel),
-                }),
-                2 => m.in_turn(STEP1B_TURNS, |m, i| match i {
+                1 => m.in_turn(STEP1B_TURNS, |m, i| match i {
                     0 => m.cut(&SUFFIX_NOUN_STEP1B),
-                    _ => m.first_of(STEP1B_SEQUEL, Model::noun_sequel),
+                    _ => m.first_of(STEP1B_SEQUEL, |m, i| match i {
+                        0 => m.cut(&SUFFIX_NOUN_STEP2A),
+                        1 => m.cut(&SUFFIX_NOUN_STEP2B),
+                        _ => m.cut(&SUFFIX_NOUN_STEP2C1),
+                    }),
                 }),
-                3 => !m.defined && m.cut(&SUFFIX_NOUN_STEP2A),
-                4 => m.cut(&SUFFIX_NOUN_STEP2B),
+                2 => !m.defined && m.cut(&SUFFIX_NOUN_STEP2A),
+                3 => m.cut(&SUFFIX_NOUN_STEP2B),
                 _ => true,
             }),
             _ => m.cut(&SUFFIX_NOUN_STEP3),
         })
-    }
-
-    fn noun_sequel(m: &mut Model, i: usize) -> bool {
-        match i {
-            0 => m.cut(&SUFFIX_NOUN_STEP2A),
-            1 => m.cut(&SUFFIX_NOUN_STEP2B),
-            2 => m.cut(&SUFFIX_NOUN_STEP2C1),
-            _ => true,
-        }
     }
 
     fn endings(&mut self) {

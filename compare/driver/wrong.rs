@@ -9,8 +9,8 @@ use random::Random;
 use std::collections::BTreeMap;
 use std::io::{self, BufRead, Write};
 
-const STEPS: [&str; 18] = [
-    "checks1", "prefixStep1", "prefixStep2", "prefixStep3aNoun", "prefixStep3bNoun", "prefixStep3Verb", "prefixStep4Verb", "nounStep1a", "nounStep1b", "nounStep2a", "nounStep2b",
+const STEPS: [&str; 17] = [
+    "checks1", "prefixStep1", "prefixStep2", "prefixStep3aNoun", "prefixStep3bNoun", "prefixStep3Verb", "prefixStep4Verb", "nounStep1b", "nounStep2a", "nounStep2b",
     "nounStep2c1", "nounStep2c2", "nounStep3", "verbStep1", "verbStep2a", "verbStep2b", "verbStep2c",
 ];
 const CHECKS1: usize = 0;
@@ -20,17 +20,16 @@ const PREFIX_STEP3A_NOUN: usize = 3;
 const PREFIX_STEP3B_NOUN: usize = 4;
 const PREFIX_STEP3_VERB: usize = 5;
 const PREFIX_STEP4_VERB: usize = 6;
-const NOUN_STEP1A: usize = 7;
-const NOUN_STEP1B: usize = 8;
-const NOUN_STEP2A: usize = 9;
-const NOUN_STEP2B: usize = 10;
-const NOUN_STEP2C1: usize = 11;
-const NOUN_STEP2C2: usize = 12;
-const NOUN_STEP3: usize = 13;
-const VERB_STEP1: usize = 14;
-const VERB_STEP2A: usize = 15;
-const VERB_STEP2B: usize = 16;
-const VERB_STEP2C: usize = 17;
+const NOUN_STEP1B: usize = 7;
+const NOUN_STEP2A: usize = 8;
+const NOUN_STEP2B: usize = 9;
+const NOUN_STEP2C1: usize = 10;
+const NOUN_STEP2C2: usize = 11;
+const NOUN_STEP3: usize = 12;
+const VERB_STEP1: usize = 13;
+const VERB_STEP2A: usize = 14;
+const VERB_STEP2B: usize = 15;
+const VERB_STEP2C: usize = 16;
 const SIZE: usize = 600;
 
 /// Which of the rows that match is taken.
@@ -166,7 +165,7 @@ impl Definition {
         let mut rows: Vec<Row> = self.tables[self.table[i]].iter().map(row).collect();
         let shortest = self.search[i] == Search::Shortest;
         rows.sort_by_key(|row| if shortest { row.letters.len() } else { 9 - row.letters.len() });
-        let edge = |row: &Row| row.letters[if i < NOUN_STEP1A { 0 } else { row.letters.len() - 1 }];
+        let edge = |row: &Row| row.letters[if i < NOUN_STEP1B { 0 } else { row.letters.len() - 1 }];
         let edges = rows.iter().fold(0, |edges, row| edges | 1 << (edge(row) & 63));
         Step { rows, edges, not_at: self.not_at[i].clone(), search: self.search[i] }
     }
@@ -272,7 +271,6 @@ impl Model {
         let cut = |step: usize, text: &mut Text| self.steps[step].cut(text);
         let sequel = |text: &mut Text| cut(NOUN_STEP2A, text) || cut(NOUN_STEP2B, text) || cut(NOUN_STEP2C1, text);
         let _ = cut(NOUN_STEP2C2, text)
-            || (open && cut(NOUN_STEP1A, text) && (sequel(text) || true))
             || (cut(NOUN_STEP1B, text) && sequel(text))
             || (open && cut(NOUN_STEP2A, text))
             || cut(NOUN_STEP2B, text);
