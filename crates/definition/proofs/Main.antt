@@ -1,21 +1,22 @@
 -- What is shown of the definition: the main theorems of this crate, each closed by the file that proves it. Assumes nothing.
 use mathlib.Core.Path.{_≡_}
 use mathlib.Core.Bool.{true}
+use mathlib.Core.Logic.{_⊎_}
 use mathlib.Core.List.{[], _∷_, _++_, map}
 use Prim.Native.Nat.{ℕ, _≤_, _<_}
 use lib.ListN.{length}
 use Rattle.definition.specs.Letters.{hamza, alef, waw, yeh}
 use Rattle.definition.specs.Words.{Word, every, beginsWith, endsWith}
-use Rattle.definition.specs.Tables.{Table, «A_1», «A_2», «A_21»}
+use Rattle.definition.specs.Tables.{Table, «A_0», «A_1», «A_2», «A_21»}
 use Rattle.definition.specs.Search.{rowAt, longest}
 use Rattle.definition.specs.Tries.{done, after, again}
 use Rattle.definition.specs.Kind.{Kind}
-use Rattle.definition.specs.Normal.{normalise}
+use Rattle.definition.specs.Normal.{normal, normalise}
 use Rattle.definition.specs.Endings.{SuffixStep, Cutting, cut, endings, suffixAllAlefMaqsura, allEndings, maqsuraIfFailed}
 use Rattle.definition.specs.Finish.{last, other, finish}
 use Rattle.definition.specs.Stem.{cutting, stem}
 use Rattle.definition.specs.Demand3.{Demand3}
-use Rattle.definition.specs.Facts.{Longest, distinct, allTables, replaced, Idle, AllCuts, NotNoonAlef, cutWord}
+use Rattle.definition.specs.Facts.{Longest, distinct, allTables, plainLetter, noPlainKey, replaced, Idle, AllCuts, NotNoonAlef, cutWord}
 use Rattle.definition.specs.Examples.{computed, twelve, work, examples, samples, normalised, normalSamples}
 use Rattle.definition.specs.Listed.{EveryClassListed}
 use Rattle.definition.proofs.Examples.{examples-right}
@@ -24,6 +25,7 @@ use Rattle.definition.proofs.Listed.{every-class-listed}
 use Rattle.definition.proofs.Rows.{last-rows, other-rows, maqsura-row}
 use Rattle.definition.proofs.Leave.{all-endings}
 use Rattle.definition.proofs.Unique.{rigid-front, rigid-end, longest-is, distinct-all}
+use Rattle.definition.proofs.Passed.{ranges-of, plain-of, no-plain-keys, plain-normal, plain-word}
 use Rattle.definition.proofs.Again.{again-ends}
 use Rattle.definition.proofs.NoonAlef.{no-noon-alef}
 use Rattle.definition.proofs.Only.{demand3-only, no-cuts}
@@ -72,6 +74,22 @@ main-end w t d = longest-is (endsWith w) t d (rigid-end w)
 -- all 21 tables are such tables
 pub main-distinct : every distinct allTables ≡ true
 main-distinct = distinct-all
+
+-- a letter is plain if it is one of 0621 to 063A or 0641 to 064A, and only then
+pub main-plain-ranges : (c : ℕ) → (plainLetter c ≡ true → ((0x621 ≤ c) × (c ≤ 0x63A)) ⊎ ((0x641 ≤ c) × (c ≤ 0x64A)))
+    × (((0x621 ≤ c) × (c ≤ 0x63A)) ⊎ ((0x641 ≤ c) × (c ≤ 0x64A)) → plainLetter c ≡ true)
+main-plain-ranges c = (ranges-of c, plain-of c)
+
+-- no key of A_0 is plain
+pub main-plain-keys : every noPlainKey «A_0» ≡ true
+main-plain-keys = no-plain-keys
+
+-- so item 2 keeps a plain letter, and a word of plain letters alone
+pub main-plain : (c : ℕ) → plainLetter c ≡ true → normal c ≡ c ∷ []
+main-plain = plain-normal
+
+pub main-plain-word : (w : Word) → every plainLetter w ≡ true → normalise w ≡ w
+main-plain-word = plain-word
 
 -- a step that is repeated as often as the word has letters ends where it takes no row
 pub main-again : (s : SuffixStep) (n : ℕ) (v : Cutting) → length (v .text) ≤ n → (x : Cutting) × (again n (cut s) v ≡ done x) × Idle s x

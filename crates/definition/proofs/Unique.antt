@@ -18,7 +18,7 @@ use Rattle.definition.proofs.Found.{Found, all-at, longest-found, longe
 distinct-tail : (k : Row) (t : Table) → distinct (k ∷ t) ≡ true → distinct t ≡ true
 distinct-tail k t d = both-1 (every (λ (j : Row). not (same (k .letters) (j .letters))) t) (distinct t) (both-1 (leb 1 (length (k .letters))) _ d)
 
-some-letter : (t : Table) → distinct t ≡ true → (r : ℕ) → r < length t → 1 ≤ length (rowAt t r .letters)
+pub some-letter : (t : Table) → distinct t ≡ true → (r : ℕ) → r < length t → 1 ≤ length (rowAt t r .letters)
 some-letter [] d r h = absurd (omega arith)
 some-letter (k ∷ t) d zero h = leb-true 1 (length (k .letters)) (both-0 _ _ d)
 some-letter (k ∷ t) d (suc r) h = some-letter t (distinct-tail k t d) r (omega arith)

@@ -1,4 +1,4 @@
--- What the main theorems beside demand 3 speak of: searches and tables, letters that rows give, and a row that cuts in no word.
+-- What the main theorems beside demand 3 speak of: searches and tables, plain letters, letters that rows give, and a row that cuts in no word.
 use mathlib.Core.Path.{_≡_}
 use mathlib.Core.Bool.{Bool, true, not}
 use mathlib.Core.List.{List, [], _∷_}
@@ -7,7 +7,7 @@ use Prim.Native.Nat.{ℕ, _≤_, _<_}
 use lib.Dec.{leb}
 use lib.ListN.{length, getD}
 use Rattle.definition.specs.Letters.{alef, beh, teh, kaf, heh}
-use Rattle.definition.specs.Words.{Word, both, every, same, beginsWith, endsWith}
+use Rattle.definition.specs.Words.{Word, pick, both, every, same, beginsWith, endsWith}
 use Rattle.definition.specs.Tables.{Row, Table, «A_0», «A_1», «A_2», «A_3», «A_4», «A_5», «A_6», «A_7», «A_8», «A_9», «A_11», «A_12», «A_13», «A_14», «A_15», «A_16», «A_17», «A_18», «A_19», «A_20», «A_21»}
 use Rattle.definition.specs.Search.{rowAt, longest, taken}
 use Rattle.definition.specs.Endings.{SuffixStep, verbStep1, verbStep2a, verbStep2b, verbStep2c, nounStep1b, nounStep2a, nounStep2b, nounStep2c1, nounStep2c2, nounStep3, suffix, Cut, Cutting}
@@ -28,6 +28,19 @@ abbrev pub allTables : List Table
 allTables =
     «A_0» ∷ «A_1» ∷ «A_2» ∷ «A_3» ∷ «A_4» ∷ «A_5» ∷ «A_6» ∷ «A_7» ∷ «A_8» ∷ «A_9»
     ∷ «A_11» ∷ «A_12» ∷ «A_13» ∷ «A_14» ∷ «A_15» ∷ «A_16» ∷ «A_17» ∷ «A_18» ∷ «A_19» ∷ «A_20» ∷ «A_21» ∷ []
+
+-- ---- plain letters
+
+abbrev pub inRange : ℕ → ℕ → ℕ → Bool
+inRange lo hi c = both (leb lo c) (leb c hi)
+
+-- the letters 0621 to 063A and 0641 to 064A
+unfoldable pub plainLetter : ℕ → Bool
+plainLetter c = pick (inRange 0x621 0x63A c) true (inRange 0x641 0x64A c)
+
+-- no letter of the row is plain
+abbrev pub noPlainKey : Row → Bool
+noPlainKey r = every (λ (c : ℕ). not (plainLetter c)) (r .letters)
 
 -- ---- letters and rows
 
