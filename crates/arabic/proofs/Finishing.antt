@@ -8,7 +8,7 @@ use lib.ListN.{length, take, drop}
 use lib.Seq.{take-append-seam}
 use borrow.Author.Tests.{eq-eqb, ne-eqb}
 use Rattle.utf8.specs.Utf8.{encode1, encode}
-use Rattle.utf8.proofs.Text.{encode1-pos, encode-injective}
+use Rattle.utf8.proofs.Text.{encode1-pos}
 use Rattle.definition.specs.Words.{Word}
 use Rattle.definition.specs.Finish.{finish}
 use Rattle.definition.proofs.Finish.{other-last}
@@ -23,24 +23,17 @@ use Rattle.arabic.proofs.Changes.{changed-size, changed-top}
 use Rattle.arabic.proofs.Ahead as ahead
 use Rattle.arabic.proofs.Ahead.{Ahead, Next, cons-size}
 
--- The loop's invariant: word is the whole of the old text, rest the letters from i on, and the bytes before i are those of the letters before.
--- The turns that are left are enough for rest.
+-- The loop's invariant: the bytes before i are those of the letters before, finished. The turns that are left are enough for the others.
 pub record Inv (old : List ℕ) (limit turns : ℕ) (text : List ℕ) (i turn : ℕ) : Type 0 where
-  pub word : Word
-  pub whole : Encodes (take limit old) word
-  pub rest : Word
-  pub to : Ahead text i limit (drop limit old) rest
-  pub bytes : take i text ++ encode (finish rest) ≡ encode (finish word)
-  pub enough : turn + length rest ≤ turns
+  pub to : Ahead old limit text i
+  pub bytes : take i text ++ encode (finish (to .rest)) ≡ encode (finish (to .word))
+  pub enough : turn + length (to .rest) ≤ turns
   pub size : length text ≡ workSize
 
 pub start : (text : List ℕ) (limit turns : ℕ) (cs : Word) → limit ≤ workSize → length text ≡ workSize → Encodes (take limit text) cs → length cs ≤ turns
     → Inv text limit turns text 0 0
 start text limit turns cs h z e l =
     record {
-      word = cs;
-      whole = e;
-      rest = cs;
       to = ahead.start text limit cs (omega arith) e;
       bytes = refl;
       enough = omega arith;
@@ -55,16 +48,13 @@ finish-step c [] j limit e = rw (eq-eqb j limit (omega arith), other-last c) ref
 finish-step c (d ∷ t) j limit e = rw (ne-eqb j limit (λ (q : j ≡ limit). omega (arith, cons-size d t, encode1-pos d))) refl
 
 module _ {old : List ℕ} {limit turns : ℕ} {text : List ℕ} {i k : ℕ} (v : Inv old limit turns text i k) where
-  next : i < limit → Next text i limit (drop limit old) (v .rest)
-  next h = ahead.next text i limit (drop limit old) (v .rest) (v .to) h
-
   pub letter : i < limit → SomeLetter text i
-  letter h = ahead.letter text i limit (drop limit old) (v .rest) (next h)
+  letter = ahead.letter (v .to)
 
   -- one turn: the letter l is read at i, and c is what it becomes
   module _ (h : i < limit) (l : Letter) (f : Read text i l) where
-    n : Next text i limit (drop limit old) (v .rest)
-    n = next h
+    n : Next text i limit (drop limit old) (v .to .rest)
+    n = ahead.next (v .to) h
 
     is : (l .code ≡ n .c) × (l .width ≡ length (encode1 (n .c)))
     is = f (n .c) (encode (n .t) ++ drop limit old) (n .at)
@@ -101,7 +91,7 @@ module _ {old : List ℕ} {limit turns : ℕ} {text : List ℕ} {i k : ℕ} (v :
       pub code-top : c < 0x110000
       code-top = omega (arith, is-changed, changed-top (eqb (i + l .width) limit) (n .c) (n .at .0))
 
-      rest-bytes : encode (finish (v .rest)) ≡ encode1 c ++ encode (finish (n .t))
+      rest-bytes : encode (finish (v .to .rest)) ≡ encode1 c ++ encode (finish (n .t))
       rest-bytes =
           ap (λ (x : Word). encode (finish x)) (n .is)
           ∙ finish-step (n .c) (n .t) (i + l .width) limit (omega (arith, is .1, n .ends))
@@ -111,11 +101,8 @@ module _ {old : List ℕ} {limit turns : ℕ} {text : List ℕ} {i k : ℕ} (v :
       turn r new u =
           let z : r ≡ i + l .width = omega (arith, u .end, same-size) in
           record {
-            word = v .word;
-            whole = v .whole;
-            rest = n .t;
             to =
-                ahead.past text i limit (drop limit old) (v .rest) n new (i + l .width) (ap (λ (x : ℕ). i + x) (is .1))
+                ahead.past (v .to) n new (i + l .width) (ap (λ (x : ℕ). i + x) (is .1))
                 (ap (λ (j : ℕ). drop j new) (sym z) ∙ u .rest ∙ ap (λ (j : ℕ). drop j text) z);
             bytes =
                 ap (λ (j : ℕ). take j new ++ encode (finish (n .t))) (sym z)
@@ -127,20 +114,19 @@ module _ {old : List ℕ} {limit turns : ℕ} {text : List ℕ} {i k : ℕ} (v :
             size = u .size ∙ v .size;
           }
 
-  all-read : v .rest ≡ [] → (cs : Word) → Encodes (take limit old) cs → Finished cs text limit
+  all-read : v .to .rest ≡ [] → (cs : Word) → Encodes (take limit old) cs → Finished cs text limit
   unfolding finish encode
   all-read z cs e =
-      let w : v .word ≡ cs = encode-injective (v .word) cs (v .whole .0) (e .0) (sym (v .whole .1) ∙ e .1) in
       let q : i ≡ limit = omega (arith, v .to .ends, ap (λ (x : Word). length (encode x)) z) in
       ap (λ (j : ℕ). take j text) (sym q)
       ∙ sym (append-nil (take i text))
       ∙ ap (λ (x : Word). take i text ++ encode (finish x)) (sym z)
       ∙ v .bytes
-      ∙ ap (λ (x : Word). encode (finish x)) w
+      ∙ ap (λ (x : Word). encode (finish x)) (ahead.only (v .to) cs e)
 
   -- the loop ends at the limit, or after the last turn
   pub at-limit : limit ≤ i → (cs : Word) → Encodes (take limit old) cs → Finished cs text limit
-  at-limit h = all-read (ahead.none-left text i limit (drop limit old) (v .rest) (v .to) h)
+  at-limit h = all-read (ahead.none-left (v .to) h)
 
   pub after-turns : turns ≤ k → (cs : Word) → Encodes (take limit old) cs → Finished cs text limit
-  after-turns h = all-read (empty (v .rest) (omega (arith, v .enough)))
+  after-turns h = all-read (empty (v .to .rest) (omega (arith, v .enough)))

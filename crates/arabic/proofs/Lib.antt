@@ -11,6 +11,7 @@ pub mod Table
 pub mod Halving
 pub mod Gives
 pub mod Ahead
+pub mod Passing
 pub mod Normalising
 pub mod Changes
 pub mod Finishing

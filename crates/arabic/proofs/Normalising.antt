@@ -1,32 +1,34 @@
 -- The letter loop of item 2, on plain values. Assumes nothing.
 use mathlib.Core.Path.{_≡_, refl, sym, ap, _∙_}
+use mathlib.Core.Bool.{Bool, true, false}
 use mathlib.Core.List.{List, _++_, append-assoc, append-nil}
 use Prim.Native.Nat.{ℕ, _+_, _*_, _≤_, _<_}
 use native.Mathlib.Omega.{arith}
 use lib.ListN.{length, take, drop, getD}
 use lib.Seq.{length-take-le}
 use Rattle.utf8.specs.Utf8.{encode1, encode}
-use Rattle.utf8.proofs.Text.{encode-append, encode-injective}
+use Rattle.utf8.proofs.Text.{encode-one, encode-append}
 use Rattle.definition.specs.Words.{Word}
 use Rattle.definition.specs.Normal.{given, normal, normalise}
-use Rattle.utf8.specs.Letters.{SomeLetter, Read, Wrote}
+use Rattle.definition.specs.Facts.{plainLetter}
+use Rattle.definition.proofs.Passed.{plain-normal}
+use Rattle.utf8.specs.Letters.{LetterAt, SomeLetter, Read, Wrote}
 use Rattle.arabic.specs.Bytes.{Encodes}
 use Rattle.utf8.specs.declared.letters.Letter.{Letter}
 use Rattle.arabic.specs.Rows.{classes, rowOf, classOf}
 use Rattle.arabic.specs.Texts.{longestWord, Normalised}
 use Rattle.snowball.specs.Stands.{workSize}
 use Rattle.utf8.proofs.ReadLetter.{scalar-top}
+use Rattle.plain_letters.specs.Telling.{Tells}
 use Rattle.arabic.proofs.Table.{grows, class-at, class-small, normal-class}
+use Rattle.arabic.proofs.Passing.{told, two-bytes, two-inside}
 use Rattle.arabic.proofs.Ahead as ahead
 use Rattle.arabic.proofs.Ahead.{Ahead, Next}
 
--- The loop's invariant: word is the whole text, rest the letters from i on, and the first `at` bytes of out are those of the letters before.
+-- The loop's invariant: the first `at` bytes of out are those of the letters before i, normalised.
 pub record Inv (text : List ℕ) (limit i : ℕ) (out : List ℕ) (at : ℕ) : Type 0 where
-  pub word : Word
-  pub whole : Encodes (take limit text) word
-  pub rest : Word
-  pub to : Ahead text i limit (drop limit text) rest
-  pub bytes : take at out ++ encode (normalise rest) ≡ encode (normalise word)
+  pub to : Ahead text limit text i
+  pub bytes : take at out ++ encode (normalise (to .rest)) ≡ encode (normalise (to .word))
   pub bound : 3 * at ≤ 4 * i
   pub size : length out ≡ workSize
 
@@ -34,9 +36,6 @@ pub start : (text : List ℕ) (limit : ℕ) (out cs : List ℕ) → limit ≤ le
     → Inv text limit 0 out 0
 start text limit out cs h z e =
     record {
-      word = cs;
-      whole = e;
-      rest = cs;
       to = ahead.start text limit cs h e;
       bytes = refl;
       bound = omega arith;
@@ -50,69 +49,80 @@ chosen c code row class e f g =
     (omega (arith, class-small c), rw (e, k) (sym (normal-class c)))
 
 module _ {text : List ℕ} {limit i : ℕ} {out : List ℕ} {at : ℕ} (v : Inv text limit i out at) where
-  next : i < limit → Next text i limit (drop limit text) (v .rest)
-  next h = ahead.next text i limit (drop limit text) (v .rest) (v .to) h
-
   pub letter : i < limit → SomeLetter text i
-  letter h = ahead.letter text i limit (drop limit text) (v .rest) (next h)
+  letter = ahead.letter (v .to)
 
-  -- one turn: the letter l is read at i
-  module _ (h : i < limit) (l : Letter) (f : Read text i l) where
-    n : Next text i limit (drop limit text) (v .rest)
-    n = next h
+  -- one turn: the letter at i
+  module _ (h : i < limit) where
+    pub next : Next text i limit (drop limit text) (v .to .rest)
+    next = ahead.next (v .to) h
 
-    is : (l .code ≡ n .c) × (l .width ≡ length (encode1 (n .c)))
-    is = f (n .c) (encode (n .t) ++ drop limit text) (n .at)
+    rest-bytes : encode (normalise (v .to .rest)) ≡ encode (normal (next .c)) ++ encode (normalise (next .t))
+    unfolding normalise
+    rest-bytes = ap (λ (x : Word). encode (normalise x)) (next .is) ∙ encode-append (normal (next .c)) (normalise (next .t))
 
-    pub moves : (i < i + l .width) × (i + l .width ≤ limit)
-    moves = omega (arith, is .1, n .wide, n .ends)
+    -- what stands for it is written, and its bytes are passed
+    written : (width : ℕ) (bs : List ℕ) → width ≡ length (encode1 (next .c)) → bs ≡ encode (normal (next .c))
+        → (r : ℕ) (new : List ℕ) → Wrote out at bs new r → Inv text limit (i + width) new r
+    written width bs e f r new u =
+        record {
+          to = ahead.past (v .to) next text (i + width) (ap (λ (x : ℕ). i + x) e) refl;
+          bytes =
+              ap (λ (x : List ℕ). x ++ encode (normalise (next .t))) (u .bytes)
+              ∙ append-assoc (take at out) bs (encode (normalise (next .t)))
+              ∙ ap (λ (x : List ℕ). take at out ++ x) (ap (λ (x : List ℕ). x ++ encode (normalise (next .t))) f ∙ sym rest-bytes)
+              ∙ v .bytes;
+          bound = omega (arith, e, u .end, v .bound, ap length f, grows (next .c));
+          size = u .size ∙ v .size;
+        }
 
-    pub code-top : l .code < 0x110000
-    code-top = omega (arith, is .0, scalar-top (n .c) (n .at .0))
+    -- b tells whether it is plain
+    module _ (b : Bool) (f : Tells text i b) where
+      pub plain-room : b ≡ true → limit ≤ longestWord → at + 2 ≤ workSize
+      plain-room e m = omega (arith, two-inside next b f e, v .bound)
 
-    -- the table has the letter in this row, of this class
-    module _ (row class : ℕ) (e : row ≡ rowOf (l .code)) (g : class ≡ getD classes row 0) where
-      is-normal : (class < 56) × (given (l .code) class ≡ normal (n .c))
-      is-normal = chosen (n .c) (l .code) row class (is .0) e g
+      pub plain-turn : b ≡ true → (r : ℕ) (new : List ℕ) → ((c : ℕ) (t : List ℕ) → LetterAt text i c t → Wrote out at (encode1 c) new r)
+          → Inv text limit (i + 2) new r
+      plain-turn e r new u =
+          written 2 (encode1 (next .c)) (sym (two-bytes next b f e))
+          (sym (ap encode (plain-normal (next .c) (sym (told next b f) ∙ e)) ∙ encode-one (next .c)))
+          r new (u (next .c) (encode (next .t) ++ drop limit text) (next .at))
 
-      pub class-top : class < 56
-      class-top = is-normal .0
+    -- the letter l is read
+    module _ (l : Letter) (f : Read text i l) where
+      is : (l .code ≡ next .c) × (l .width ≡ length (encode1 (next .c)))
+      is = f (next .c) (encode (next .t) ++ drop limit text) (next .at)
 
-      pub room : limit ≤ longestWord → at + length (encode (given (l .code) class)) ≤ workSize
-      room m = omega (arith, ap (λ (x : Word). length (encode x)) (is-normal .1), grows (n .c), v .bound, n .ends)
+      pub moves : (i < i + l .width) × (i + l .width ≤ limit)
+      moves = omega (arith, is .1, next .wide, next .ends)
 
-      rest-bytes : encode (normalise (v .rest)) ≡ encode (given (l .code) class) ++ encode (normalise (n .t))
-      unfolding normalise
-      rest-bytes =
-          ap (λ (x : Word). encode (normalise x)) (n .is)
-          ∙ encode-append (normal (n .c)) (normalise (n .t))
-          ∙ ap (λ (x : Word). encode x ++ encode (normalise (n .t))) (sym (is-normal .1))
+      pub code-top : l .code < 0x110000
+      code-top = omega (arith, is .0, scalar-top (next .c) (next .at .0))
 
-      pub turn : (r : ℕ) (new : List ℕ) → Wrote out at (encode (given (l .code) class)) new r → Inv text limit (i + l .width) new r
-      turn r new u =
-          record {
-            word = v .word;
-            whole = v .whole;
-            rest = n .t;
-            to = ahead.past text i limit (drop limit text) (v .rest) n text (i + l .width) (ap (λ (x : ℕ). i + x) (is .1)) refl;
-            bytes =
-                ap (λ (x : List ℕ). x ++ encode (normalise (n .t))) (u .bytes)
-                ∙ append-assoc (take at out) (encode (given (l .code) class)) (encode (normalise (n .t)))
-                ∙ ap (λ (x : List ℕ). take at out ++ x) (sym rest-bytes)
-                ∙ v .bytes;
-            bound = omega (arith, is .1, u .end, v .bound, ap (λ (x : Word). length (encode x)) (is-normal .1), grows (n .c));
-            size = u .size ∙ v .size;
-          }
+      pub not-plain : (b : Bool) → Tells text i b → b ≡ false → plainLetter (l .code) ≡ false
+      not-plain b g e = ap plainLetter (is .0) ∙ sym (told next b g) ∙ e
+
+      -- the table has the letter in this row, of this class
+      module _ (row class : ℕ) (e : row ≡ rowOf (l .code)) (g : class ≡ getD classes row 0) where
+        is-normal : (class < 56) × (given (l .code) class ≡ normal (next .c))
+        is-normal = chosen (next .c) (l .code) row class (is .0) e g
+
+        pub class-top : class < 56
+        class-top = is-normal .0
+
+        pub room : limit ≤ longestWord → at + length (encode (given (l .code) class)) ≤ workSize
+        room m = omega (arith, ap (λ (x : Word). length (encode x)) (is-normal .1), grows (next .c), v .bound, next .ends)
+
+        pub turn : (r : ℕ) (new : List ℕ) → Wrote out at (encode (given (l .code) class)) new r → Inv text limit (i + l .width) new r
+        turn = written (l .width) (encode (given (l .code) class)) (is .1) (ap encode (is-normal .1))
 
   pub done : limit ≤ longestWord → limit ≤ i → (cs : Word) → Encodes (take limit text) cs → Normalised cs out at
   unfolding normalise encode
   done h l cs e =
-      let z = ahead.none-left text i limit (drop limit text) (v .rest) (v .to) l in
-      let w : v .word ≡ cs = encode-injective (v .word) cs (v .whole .0) (e .0) (sym (v .whole .1) ∙ e .1) in
       let b : take at out ≡ encode (normalise cs) =
       sym (append-nil (take at out))
-      ∙ ap (λ (x : Word). take at out ++ encode (normalise x)) (sym z)
+      ∙ ap (λ (x : Word). take at out ++ encode (normalise x)) (sym (ahead.none-left (v .to) l))
       ∙ v .bytes
-      ∙ ap (λ (x : Word). encode (normalise x)) w in
+      ∙ ap (λ (x : Word). encode (normalise x)) (ahead.only (v .to) cs e) in
       let m : at ≤ workSize = omega (arith, v .bound, v .to .ends) in
       record { bytes = b; sized = omega (arith, ap length b, length-take-le at out (omega (arith, v .size))); within = m }

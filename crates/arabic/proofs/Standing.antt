@@ -1,13 +1,16 @@
 -- The environments that r_Normalize_pre and r_Normalize_post leave stand for the word normalised and finished. Assumes nothing.
-use mathlib.Core.Path.{refl, sym, ap, _∙_}
+use mathlib.Core.Path.{_≡_, refl, sym, ap, _∙_, subst}
+use mathlib.Core.Bool.{true}
 use mathlib.Core.List.{List}
 use Prim.Native.Nat.{ℕ}
 use native.Mathlib.Omega.{arith}
 use lib.ListN.{length, take, length-take}
 use Rattle.utf8.specs.Utf8.{encode}
-use Rattle.definition.specs.Words.{Word}
+use Rattle.definition.specs.Words.{Word, every}
 use Rattle.definition.specs.Normal.{normalise}
 use Rattle.definition.specs.Finish.{finish}
+use Rattle.definition.specs.Facts.{plainLetter}
+use Rattle.definition.proofs.Passed.{plain-word}
 use Rattle.snowball.specs.Chars.{Chars, started}
 use Rattle.snowball.specs.Stands.{Standing}
 use Rattle.arabic.specs.Bytes.{Encodes, Spelt}
@@ -38,6 +41,11 @@ module _ {current : List ℕ} {limit at behind : ℕ} where
         cursor = (omega arith, refl);
         back = (omega arith, refl);
       }
+
+  -- a word of plain letters alone is normalised
+  pub passed : (w : Word) → Standing current limit at behind (started w) → every plainLetter w ≡ true
+      → Standing current limit at behind (started (normalise w))
+  passed w v p = subst (λ (n : Word). Standing current limit at behind (started n)) (sym (plain-word w p)) v
 
   pub finished : (w : Word) → Standing current limit at behind (started w) → (new : List ℕ) → Finished w new limit
       → Standing new limit at behind (started (finish w))

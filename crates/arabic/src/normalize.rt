@@ -3,6 +3,8 @@ use crate::a_0::A_0_CLASSES;
 use crate::a_0::A_0_GIVES;
 use crate::a_0::A_0_KEYS;
 use crate::tables;
+use plain_letters::copy_plain;
+use plain_letters::plain_at;
 use snowball::among::find_among;
 use snowball::among::find_among_b;
 use snowball::among::wide;
@@ -11,9 +13,11 @@ use snowball::env::WORK_SIZE;
 use utf8::letters::put_letter;
 use utf8::letters::read_letter;
 ghost use mathlib.Core.Path.{_≡_};
+ghost use mathlib.Core.Bool.{false};
 ghost use Prim.Native.Nat.{_+_, _<_, _≤_};
 ghost use lib.ListN.{length, take, getD};
-ghost use Rattle.definition.specs.Words.{Word};
+ghost use Rattle.definition.specs.Words.{Word, every};
+ghost use Rattle.definition.specs.Facts.{plainLetter};
 ghost use Rattle.definition.specs.Normal.{given, normalise};
 ghost use Rattle.definition.specs.Finish.{last, other, finish};
 ghost use Rattle.utf8.specs.Utf8.{encode};
@@ -24,9 +28,26 @@ ghost use Rattle.arabic.specs.Bytes.{Encodes, Spelt, LetterFrom};
 ghost use Rattle.arabic.specs.Rows.{keys, classes, rowOf, packedGives};
 ghost use Rattle.arabic.specs.Texts.{longestWord, Normalised, Finished, changed};
 
-// The row of A_0 whose letter is c, and 161 where there is none.
+// Whether the letters in the first limit bytes of text are plain, all of them.
+fn all_plain(text: &[u8], limit: usize) -> bool
+    requires { ⌜ Spelt (now text) limit ⌝ }
+    ensures { λ r. ⌜ ((cs : Word) → Encodes (take limit (now (text .entry))) cs → r ≡ every plainLetter cs) ⌝ }
+{
+    let mut cursor = 0;
+    while cursor < limit {
+        let plain = plain_at(text, cursor);
+        if !plain {
+            return false;
+        }
+        cursor += 2;
+    }
+    true
+}
+
+// The row of A_0 whose letter is c, and 161 where there is none. A plain letter is not searched.
 fn row_of(rows: &[u32; 161], c: u32) -> usize
     requires { ⌜ now rows ≡ keys ⌝ }
+    requires { ⌜ plainLetter c ≡ false ⌝ }
     ensures { λ r. ⌜ r ≡ rowOf c ⌝ }
 {
     let mut lo = 0;
@@ -103,8 +124,8 @@ fn give(class: usize, c: u32, out: &mut [u8; WORK_SIZE], at: usize) -> usize
     give_listed(class, c, out, at)
 }
 
-// The loop of r_Normalize_pre, from the first limit bytes of text into out. The answer is the number of bytes written. The
-// Rust replaces each letter within the text, which moves all that is behind it.
+// The loop of r_Normalize_pre, from the first limit bytes of text into out: a plain letter is copied, any other is searched in A_0. The
+// answer is the number of bytes written. The Rust searches every letter, and replaces it within the text, which moves all that is behind it.
 fn normalize_text(text: &[u8], limit: usize, out: &mut [u8; WORK_SIZE]) -> usize
     requires { ⌜ Spelt (now text) limit ⌝ }
     requires { ⌜ (limit ≤ longestWord) × (length (now out) ≡ workSize) ⌝ }
@@ -114,6 +135,12 @@ fn normalize_text(text: &[u8], limit: usize, out: &mut [u8; WORK_SIZE]) -> usize
     let mut cursor = 0;
     let mut end = 0;
     while cursor < limit {
+        let plain = plain_at(text, cursor);
+        if plain {
+            end = copy_plain(text, cursor, out, end);
+            cursor += 2;
+            continue;
+        }
         let letter = read_letter(text, cursor);
         let row = row_of(&rows, letter.code);
         let class = class_of_row(row);
@@ -123,14 +150,18 @@ fn normalize_text(text: &[u8], limit: usize, out: &mut [u8; WORK_SIZE]) -> usize
     end
 }
 
-// The Rust's r_Normalize_pre, for a word of up to 255 bytes: each letter is deleted, replaced or kept. The Rust leaves the
-// cursor at the end and its caller sets it back; here it stays in front, and bra and ket are those of a new environment.
-// The Rust's answer, which is always true, is left out.
+// The Rust's r_Normalize_pre, for a word of up to 255 bytes: each letter is deleted, replaced or kept. A word of plain letters alone is
+// given back as it came, and no table is built for it. The Rust leaves the cursor at the end and its caller sets it back; here it stays
+// in front, and with a new text bra and ket are those of a new environment. The Rust's answer, which is always true, is left out.
 pub fn r_Normalize_pre(env: Env) -> Env
     requires { ⌜ Holds env × (env .limit ≤ longestWord) ⌝ }
     ensures { λ r. ⌜ ((w : Word) → Stands env (started w) → Stands r (started (normalise w))) ⌝ }
 {
     let limit = env.limit;
+    let plain = all_plain(&env.current, limit);
+    if plain {
+        return env;
+    }
     let mut text = [0u8; WORK_SIZE];
     let end = normalize_text(&env.current, limit, &mut text);
     Env {

@@ -37,7 +37,7 @@ loop-again : tie.Need-loop-again Inv-loop μ-loop
 loop-again c =
     let l = c .before .before .before .loop in
     let s = c .before .before .before .before in
-    upper (s .args .c) (l .lo) (l .hi) (l .inv) (l .lo + (l .hi - l .lo) / 2) (omega arith) (rw (sym (s .pre)) (c .if1 .taken))
+    upper (s .args .c) (l .lo) (l .hi) (l .inv) (l .lo + (l .hi - l .lo) / 2) (omega arith) (rw (sym (s .pre .0)) (c .if1 .taken))
 
 loop-less-2 : tie.Need-loop-less-2 Inv-loop μ-loop
 loop-less-2 c = omega arith
@@ -46,7 +46,7 @@ loop-again-2 : tie.Need-loop-again-2 Inv-loop μ-loop
 loop-again-2 c =
     let l = c .before .before .before .loop in
     let s = c .before .before .before .before in
-    lower (s .args .c) (l .lo) (l .hi) (l .inv) (l .lo + (l .hi - l .lo) / 2) (omega arith) (omega arith) (rw (sym (s .pre)) (c .if1 .left))
+    lower (s .args .c) (l .lo) (l .hi) (l .inv) (l .lo + (l .hi - l .lo) / 2) (omega arith) (omega arith) (rw (sym (s .pre .0)) (c .if1 .left))
 
 mul-if3 : tie.Need-mul-if3 Inv-loop μ-loop
 mul-if3 c = omega arith
@@ -58,13 +58,13 @@ returns : tie.Need-returns Inv-loop μ-loop
 returns c =
     let l = c .before .before .before .before .loop in
     let s = c .before .before .before .before .before in
-    found (s .args .c) (l .lo) (l .hi) (l .inv) (omega arith) (rw (sym (s .pre)) (c .if3 .taken))
+    found (s .args .c) (l .lo) (l .hi) (l .inv) (omega arith) (rw (sym (s .pre .0)) (c .if3 .taken))
 
 returns-2 : tie.Need-returns-2 Inv-loop μ-loop
 returns-2 c =
     let l = c .before .before .before .before .loop in
     let s = c .before .before .before .before .before in
-    missed (s .args .c) (l .lo) (l .hi) (l .inv) (omega arith) (λ h. rw (sym (s .pre)) (c .if3 .left))
+    missed (s .args .c) (l .lo) (l .hi) (l .inv) (omega arith) (λ h. rw (sym (s .pre .0)) (c .if3 .left))
 
 returns-3 : tie.Need-returns-3 Inv-loop μ-loop
 returns-3 c =

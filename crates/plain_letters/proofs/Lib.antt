@@ -1,0 +1,2 @@
+-- The laws behind the plain letters.
+pub mod Ranges

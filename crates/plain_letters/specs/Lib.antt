@@ -1,0 +1,2 @@
+-- What the contracts on plain letters cite.
+pub mod Telling
