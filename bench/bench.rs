@@ -1,7 +1,7 @@
-// Measures the library, the Rust and, with the setting libstemmer, Snowball's C library on the same words.
+// Measures the library, the Rust and, with the setting libstemmer, Snowball's C library on the same words; of the library also normalising alone.
 //   bench sample FILE                      prints the words of a list that are taken as typical words
 //   bench sets FILE                        the names of the word sets
-//   bench count CONTENDER SET FILE         takes the set once through run_CONTENDER; callgrind counts inside that function. Prints the number of words
+//   bench count CONTENDER SET FILE         takes the set once through run_CONTENDER, or run_normalise; callgrind counts inside that function. Prints the number of words
 //   bench table COUNTS ROUNDS FILE         times all sets and prints the table; COUNTS has lines of set, contender, words, instructions
 // FILE is a word list, one word a line, or - for generated words.
 
@@ -10,7 +10,7 @@ mod interface;
 #[path = "source/mod.rs"]
 mod snowball;
 
-use interface::arabic_stemmer_stem;
+use interface::{arabic_stemmer_normalise, arabic_stemmer_stem, Entry};
 use snowball::algorithms::{arabic, arabic_test_copy};
 use snowball::SnowballEnv;
 use std::collections::HashMap;
@@ -18,6 +18,7 @@ use std::hint::black_box;
 use std::time::{Duration, Instant};
 
 const TYPICAL: usize = 20000;
+const NORMALISE: &str = "normalise";
 const PASS: Duration = Duration::from_millis(25);
 const SWEPT: usize = 64 << 20;
 
@@ -26,16 +27,27 @@ struct Set {
     words: Vec<String>,
 }
 
-#[no_mangle]
-#[inline(never)]
-pub fn run_ours(words: &[String]) -> usize {
+#[inline(always)]
+fn through(entry: Entry, words: &[String]) -> usize {
     let mut out = [0u8; 340];
     let mut sum = 0;
     for word in words {
-        let answer = unsafe { arabic_stemmer_stem(word.as_ptr(), word.len(), out.as_mut_ptr(), out.len()) };
+        let answer = unsafe { entry(word.as_ptr(), word.len(), out.as_mut_ptr(), out.len()) };
         sum += answer.count;
     }
     sum
+}
+
+#[no_mangle]
+#[inline(never)]
+pub fn run_ours(words: &[String]) -> usize {
+    through(arabic_stemmer_stem, words)
+}
+
+#[no_mangle]
+#[inline(never)]
+pub fn run_normalise(words: &[String]) -> usize {
+    through(arabic_stemmer_normalise, words)
 }
 
 #[no_mangle]
@@ -229,10 +241,13 @@ fn table(counts: &str, rounds: usize, path: &str) {
     );
     let mut buffer = vec![1u8; SWEPT];
     let mut last = String::new();
+    let mut normalising: Vec<String> = Vec::new();
     for set in sets(path) {
         let ns = time(&set, rounds, &mut buffer);
         let bytes = set.words.iter().map(|w| w.len()).sum::<usize>() as f64 / set.words.len() as f64;
-        let counted: Vec<f64> = names.iter().map(|n| *instructions.get(&(set.name.clone(), n.to_string())).unwrap_or(&std::f64::NAN)).collect();
+        let count_of = |name: &str| *instructions.get(&(set.name.clone(), name.to_string())).unwrap_or(&std::f64::NAN);
+        let counted: Vec<f64> = names.iter().map(|n| count_of(n)).collect();
+        normalising.push(format!("{} {:.0}", set.name, count_of(NORMALISE)));
         println!("{:<12} {:>9.1} {}  {}", set.name, bytes, join(&counted, |c| format!("{:>12.0}", c)), join(&ns, |t| format!("{:>12.0}", 1e9 / t)));
         if set.name == "typical" {
             last = ratios("typical", &counted, &ns);
@@ -240,6 +255,7 @@ fn table(counts: &str, rounds: usize, path: &str) {
             last = format!("{}; {}", last, ratios(&set.name, &counted, &ns));
         }
     }
+    println!("normalising alone, ours, instructions a word: {}", normalising.join(", "));
     println!("ours/Rust{}: {}", if names.len() == 3 { " (ours/libstemmer)" } else { "" }, last);
 }
 
@@ -264,7 +280,8 @@ fn main() {
         ["sets", file] => sets(file).iter().for_each(|s| println!("{}", s.name)),
         ["count", contender, name, file] => {
             let set = sets(file).into_iter().find(|s| s.name == name).unwrap_or_else(|| fail("no such set"));
-            let list = contenders();
+            let mut list = contenders();
+            list.push((NORMALISE, Box::new(|words: &[String]| run_normalise(words))));
             let run = &list.iter().find(|c| c.0 == contender).unwrap_or_else(|| fail("no such contender")).1;
             black_box(run(black_box(&set.words)));
             println!("{}", set.words.len());
