@@ -31,6 +31,7 @@ allTables =
 
 -- ---- plain letters
 
+-- c is one of lo to hi
 abbrev pub inRange : ℕ → ℕ → ℕ → Bool
 inRange lo hi c = both (leb lo c) (leb c hi)
 

@@ -13,7 +13,7 @@ use Rattle.definition.proofs.Match.{by, clash}
 use Rattle.definition.proofs.Passed.{InRanges, in-range, range-in, ranges-of, plain-of}
 use Rattle.utf8.specs.Utf8.{encode1}
 use Rattle.utf8.specs.Letters.{LetterAt, SomeLetter, Wrote}
-use Rattle.utf8.proofs.ReadLetter.{Two, by-width, room-2}
+use Rattle.utf8.proofs.ReadLetter.{Two, two, bytes-2, room-2}
 use Rattle.utf8.proofs.WriteLetter.{put-2}
 use Rattle.plain_letters.specs.Telling.{Tells}
 
@@ -39,47 +39,41 @@ module _ (text : List ℕ) (i c : ℕ) (t : List ℕ) (l : LetterAt text i c t) 
   abbrev letter : SomeLetter text i
   letter = (c, t, l)
 
-  abbrev second : ℕ
-  second = getD text (i + 1) 0
+  by-range : {P : Type 0} → InRanges c → ((0x621 ≤ c) × (c ≤ 0x63A) → P) → ((0x641 ≤ c) × (c ≤ 0x64A) → P) → P
+  by-range r f g = ⊎-elim f g r
+
+  -- a letter of either range has two bytes
+  in-two : InRanges c → Two text i c
+  in-two r = by-range r (λ h. two text i letter (omega arith) (omega arith)) (λ h. two text i letter (omega arith) (omega arith))
+
+  -- a range of second bytes that stands for the letters of the ranges
+  by-second : (lo hi b : ℕ) → ((lo ≤ b) × (b ≤ hi) → InRanges c) → (InRanges c → (lo ≤ b) × (b ≤ hi)) → inRange lo hi b ≡ plainLetter c
+  by-second lo hi b f g = same-truth (inRange lo hi b) (plainLetter c) (λ e. plain-of c (f (in-range lo hi b e))) (λ e. range-in lo hi b (g (ranges-of c e)))
 
   pub first-D8 : getD text i 0 ≡ 0xD8 → inRange 0xA1 0xBA (getD text (i + 1) 0) ≡ plainLetter c
   first-D8 e =
-      by-width text i letter (λ x. absurd (omega arith))
-      (λ x. same-truth (inRange 0xA1 0xBA second) (plainLetter c)
-      (λ q. let h = in-range 0xA1 0xBA second q in plain-of c (inl (omega arith, omega arith)))
-      (λ p. ⊎-elim (λ (h : (0x621 ≤ c) × (c ≤ 0x63A)). range-in 0xA1 0xBA second (omega arith, omega arith)) (λ (h : (0x641 ≤ c) × (c ≤ 0x64A)). absurd (omega arith)) (ranges-of c p)))
-      (λ x. absurd (omega arith)) (λ x. absurd (omega arith))
+      let x = bytes-2 text i letter (omega arith) (omega arith) in
+      by-second 0xA1 0xBA (getD text (i + 1) 0) (λ h. inl (omega arith, omega arith)) (λ r. by-range r (λ h. (omega arith, omega arith)) (λ h. absurd (omega arith)))
 
   pub first-D9 : getD text i 0 ≡ 0xD9 → inRange 0x81 0x8A (getD text (i + 1) 0) ≡ plainLetter c
   first-D9 e =
-      by-width text i letter (λ x. absurd (omega arith))
-      (λ x. same-truth (inRange 0x81 0x8A second) (plainLetter c)
-      (λ q. let h = in-range 0x81 0x8A second q in plain-of c (inr (omega arith, omega arith)))
-      (λ p. ⊎-elim (λ (h : (0x621 ≤ c) × (c ≤ 0x63A)). absurd (omega arith)) (λ (h : (0x641 ≤ c) × (c ≤ 0x64A)). range-in 0x81 0x8A second (omega arith, omega arith)) (ranges-of c p)))
-      (λ x. absurd (omega arith)) (λ x. absurd (omega arith))
+      let x = bytes-2 text i letter (omega arith) (omega arith) in
+      by-second 0x81 0x8A (getD text (i + 1) 0) (λ h. inr (omega arith, omega arith)) (λ r. by-range r (λ h. absurd (omega arith)) (λ h. (omega arith, omega arith)))
 
   pub first-other : (getD text i 0 ≡ 0xD8 → ⊥) → (getD text i 0 ≡ 0xD9 → ⊥) → false ≡ plainLetter c
-  first-other n m =
-      not-plain c
-      (⊎-elim
-      (λ (h : (0x621 ≤ c) × (c ≤ 0x63A)). by-width text i letter (λ x. omega arith) (λ x. n (omega arith)) (λ x. omega arith) (λ x. omega arith))
-      (λ (h : (0x641 ≤ c) × (c ≤ 0x64A)). by-width text i letter (λ x. omega arith) (λ x. m (omega arith)) (λ x. omega arith) (λ x. omega arith)))
-
-  two : plainLetter c ≡ true → Two text i c
-  two p =
-      ⊎-elim
-      (λ (h : (0x621 ≤ c) × (c ≤ 0x63A)). by-width text i letter (λ x. absurd (omega arith)) (λ x. x) (λ x. absurd (omega arith)) (λ x. absurd (omega arith)))
-      (λ (h : (0x641 ≤ c) × (c ≤ 0x64A)). by-width text i letter (λ x. absurd (omega arith)) (λ x. x) (λ x. absurd (omega arith)) (λ x. absurd (omega arith)))
-      (ranges-of c p)
+  first-other n m = not-plain c (λ r. let x = in-two r in by-range r (λ h. n (omega arith)) (λ h. m (omega arith)))
 
   -- a plain letter has two bytes
+  plain-two : plainLetter c ≡ true → Two text i c
+  plain-two p = in-two (ranges-of c p)
+
   pub width : plainLetter c ≡ true → length (encode1 c) ≡ 2
-  width p = two p .width
+  width p = plain-two p .width
 
 -- ---- the letter at the byte i of text is plain
 module _ (text : List ℕ) (i : ℕ) (s : SomeLetter text i) (p : Tells text i true) where
   two-of : (c : ℕ) (t : List ℕ) → LetterAt text i c t → Two text i c
-  two-of c t l = two text i c t l (sym (p c t l))
+  two-of c t l = plain-two text i c t l (sym (p c t l))
 
   pub inside : i + 2 ≤ length text
   inside = let x = two-of (s .0) (s .1) (s .2) in room-2 text i s (omega arith)

@@ -17,10 +17,10 @@ scalar-top c s = ⊎-elim (λ (w : c < 0xD800). omega arith) (λ (w : (0xE000 �
 
 -- ---- the bytes of the letter c, by their number
 
-pub record One (text : List ℕ) (i c : ℕ) : Type 0 where
-  pub first : getD text i 0 ≡ c
-  pub low : c < 0x80
-  pub width : length (encode1 c) ≡ 1
+record One (text : List ℕ) (i c : ℕ) : Type 0 where
+  first : getD text i 0 ≡ c
+  low : c < 0x80
+  width : length (encode1 c) ≡ 1
 
 pub record Two (text : List ℕ) (i c : ℕ) : Type 0 where
   pub first : getD text i 0 ≡ 0xC0 + c / 64
@@ -29,21 +29,21 @@ pub record Two (text : List ℕ) (i c : ℕ) : Type 0 where
   pub high : c < 0x800
   pub width : length (encode1 c) ≡ 2
 
-pub record Three (text : List ℕ) (i c : ℕ) : Type 0 where
-  pub first : getD text i 0 ≡ 0xE0 + c / 4096
-  pub second : getD text (i + 1) 0 ≡ 0x80 + c / 64 % 64
-  pub third : getD text (i + 2) 0 ≡ 0x80 + c % 64
-  pub low : 0x800 ≤ c
-  pub high : c < 0x10000
-  pub width : length (encode1 c) ≡ 3
+record Three (text : List ℕ) (i c : ℕ) : Type 0 where
+  first : getD text i 0 ≡ 0xE0 + c / 4096
+  second : getD text (i + 1) 0 ≡ 0x80 + c / 64 % 64
+  third : getD text (i + 2) 0 ≡ 0x80 + c % 64
+  low : 0x800 ≤ c
+  high : c < 0x10000
+  width : length (encode1 c) ≡ 3
 
-pub record Four (text : List ℕ) (i c : ℕ) : Type 0 where
-  pub first : getD text i 0 ≡ 0xF0 + c / 262144
-  pub second : getD text (i + 1) 0 ≡ 0x80 + c / 4096 % 64
-  pub third : getD text (i + 2) 0 ≡ 0x80 + c / 64 % 64
-  pub fourth : getD text (i + 3) 0 ≡ 0x80 + c % 64
-  pub low : 0x10000 ≤ c
-  pub width : length (encode1 c) ≡ 4
+record Four (text : List ℕ) (i c : ℕ) : Type 0 where
+  first : getD text i 0 ≡ 0xF0 + c / 262144
+  second : getD text (i + 1) 0 ≡ 0x80 + c / 4096 % 64
+  third : getD text (i + 2) 0 ≡ 0x80 + c / 64 % 64
+  fourth : getD text (i + 3) 0 ≡ 0x80 + c % 64
+  low : 0x10000 ≤ c
+  width : length (encode1 c) ≡ 4
 
 module _ (text : List ℕ) (i : ℕ) (p : SomeLetter text i) where
   abbrev c : ℕ
@@ -61,7 +61,7 @@ module _ (text : List ℕ) (i : ℕ) (p : SomeLetter text i) where
   one : c < 0x80 → One text i c
   one h = record { first = front ∙ rw (encode1-1 c h) refl; low = h; width = rw (encode1-1 c h) refl }
 
-  two : 0x80 ≤ c → c < 0x800 → Two text i c
+  pub two : 0x80 ≤ c → c < 0x800 → Two text i c
   two h k =
       record {
         first = front ∙ rw (encode1-2 c h k) refl;
@@ -93,7 +93,7 @@ module _ (text : List ℕ) (i : ℕ) (p : SomeLetter text i) where
         width = rw (encode1-4 c h) refl;
       }
 
-  pub by-width : {P : Type 0} → (One text i c → P) → (Two text i c → P) → (Three text i c → P) → (Four text i c → P) → P
+  by-width : {P : Type 0} → (One text i c → P) → (Two text i c → P) → (Three text i c → P) → (Four text i c → P) → P
   by-width f g h k =
       by-le c 0x7F (λ a. f (one (omega arith)))
       (λ a. by-le c 0x7FF (λ b. g (two a (omega arith)))
@@ -118,7 +118,7 @@ module _ (text : List ℕ) (i : ℕ) (p : SomeLetter text i) where
   bytes-1 : getD text i 0 < 0x80 → One text i c
   bytes-1 h = by-width (λ x. x) (λ x. absurd (omega arith)) (λ x. absurd (omega arith)) (λ x. absurd (omega arith))
 
-  bytes-2 : 0x80 ≤ getD text i 0 → getD text i 0 < 0xE0 → Two text i c
+  pub bytes-2 : 0x80 ≤ getD text i 0 → getD text i 0 < 0xE0 → Two text i c
   bytes-2 h k = by-width (λ x. absurd (omega arith)) (λ x. x) (λ x. absurd (omega arith)) (λ x. absurd (omega arith))
 
   bytes-3 : 0xE0 ≤ getD text i 0 → getD text i 0 < 0xF0 → Three text i c
