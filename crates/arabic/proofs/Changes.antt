@@ -7,7 +7,7 @@ use Prim.Native.Nat.{ℕ, zero, suc, _≤_, _<_}
 use native.Mathlib.Omega.{arith}
 use lib.Dec.{eqb, leb}
 use lib.ListN.{length, getD}
-use borrow.Author.Tests.{eqb-true, leb-true, leb-false, le-leb, lt-leb}
+use borrow.Author.Tests.{eqb-true, leb-true, leb-false, le-leb}
 use Rattle.utf8.specs.Utf8.{Scalar, Scalars, encode1, encode}
 use Rattle.definition.specs.Letters.{hamza, alef, waw, yeh}
 use Rattle.definition.specs.Words.{Word, pick, beginsWith, endsWith}
@@ -15,7 +15,7 @@ use Rattle.definition.specs.Tables.{«A_1», «A_2»}
 use Rattle.definition.specs.Search.{rowAt, longer, longest}
 use Rattle.definition.specs.Finish.{last, other, finish}
 use Rattle.definition.proofs.Main.{main-last, main-other}
-use Rattle.definition.proofs.Stays.{other-stays}
+use Rattle.definition.proofs.Stays.{last-stays, other-stays}
 use Rattle.definition.proofs.Finish.{other-last}
 use Rattle.definition.proofs.Match.{by}
 use Rattle.arabic.specs.Texts.{changed}
@@ -23,26 +23,18 @@ use Rattle.utf8.proofs.ReadLetter.{scalar-top}
 use Rattle.utf8.proofs.WriteLetter.{size-2}
 use Rattle.arabic.proofs.Ahead.{cons-size}
 
-last-below : (c : ℕ) → c < 0x622 → last c ≡ c
-unfolding last
-last-below c h = rw (lt-leb 0x622 c h) refl
-
-last-above : (c : ℕ) → 0x626 < c → last c ≡ c
-unfolding last
-last-above c h = rw (le-leb 0x622 c (omega arith), lt-leb c 0x626 h) refl
-
 last-in : (c : ℕ) → 0x622 ≤ c → c ≤ 0x626 → last c ≡ 0x621
 unfolding last
 last-in c h k = rw (le-leb 0x622 c h, le-leb c 0x626 k) refl
 
 -- a letter before 0622 or behind 0626 stays
 pub stays-below : (ending : Bool) (c : ℕ) → c < 0x622 → c ≡ changed ending c
-stays-below true c h = sym (last-below c h)
-stays-below false c h = sym (other-stays c (λ e. omega arith) (λ e. omega arith) (λ e. omega arith) (λ e. omega arith) (λ e. omega arith))
+stays-below true c h = sym (last-stays c (inl h))
+stays-below false c h = sym (other-stays c (inl h))
 
 pub stays-above : (ending : Bool) (c : ℕ) → 0x626 < c → c ≡ changed ending c
-stays-above true c h = sym (last-above c h)
-stays-above false c h = sym (other-stays c (λ e. omega arith) (λ e. omega arith) (λ e. omega arith) (λ e. omega arith) (λ e. omega arith))
+stays-above true c h = sym (last-stays c (inr h))
+stays-above false c h = sym (other-stays c (inr h))
 
 -- ---- by the rows: k is the class of the row of A_1 or A_2 that the letter is
 
@@ -92,8 +84,8 @@ last-kept c =
     by (leb 0x622 c)
     (λ b. by (leb c 0x626)
     (λ d. let h = leb-true 0x622 c b in let k = leb-true c 0x626 d in let e = last-in c h k in inr (omega arith, omega arith, omega arith, omega arith))
-    (λ d. inl (last-above c (leb-false c 0x626 d))))
-    (λ b. inl (last-below c (leb-false 0x622 c b)))
+    (λ d. inl (last-stays c (inr (leb-false c 0x626 d)))))
+    (λ b. inl (last-stays c (inl (leb-false 0x622 c b))))
 
 pick-kept : (c x d y : ℕ) → 0x80 ≤ x → x < 0x800 → 0x80 ≤ y → y < 0x800 → Kept c d → Kept c (pick (eqb c x) y d)
 pick-kept c x d y h k l m w = by (eqb c x) (λ b. let e = eqb-true c x b in rw b (inr (omega arith, omega arith, l, m))) (λ b. rw b w)

@@ -8,15 +8,16 @@ use native.Mathlib.Omega.{arith}
 use lib.Dec.{leb, ltb, eqb}
 use lib.ListN.{length, getD, set, length-append, List·getD-append}
 use lib.Seq.{getD-append-add, getD-set-same, getD-set-other}
-use borrow.Author.Tests.{leb-true, leb-false, eqb-true, eqb-false, ltb-true, ltb-false}
+use borrow.Author.Tests.{leb-true, eqb-true, eqb-false, ltb-true, ltb-false}
 use Rattle.definition.specs.Letters.{hamza, alefMadda, alefHamzaAbove, wawHamza, alefHamzaBelow, yehHamza, alef, alefMaksura, yeh}
 use Rattle.definition.specs.Words.{Word, pick, both}
 use Rattle.definition.specs.Tries.{Try, done, failed, Failed}
 use Rattle.definition.specs.Endings.{Cutting, suffixAllAlefMaqsura, maqsuraIfFailed}
 use Rattle.definition.specs.Finish.{last, other, finish}
 use Rattle.definition.specs.Fronts.{Applied, prefixStep4Verb}
-use Rattle.definition.specs.Demand3.{isApplied, place, Change, last-hamza, other-alef, other-waw, other-yeh, last-yeh, fourth-alef, stays}
+use Rattle.definition.specs.Demand3.{isApplied, place, NoHamza, Change, last-hamza, other-alef, other-waw, other-yeh, last-yeh, fourth-alef, stays}
 use Rattle.definition.proofs.Match.{both-0, both-1, by}
+use Rattle.definition.proofs.Stays.{outside, none-of-five}
 use Rattle.definition.proofs.Finish.{other-last}
 use Rattle.definition.proofs.FrontRows.{Verbal}
 use Rattle.definition.proofs.Fronting.{Fourth, fourth}
@@ -141,27 +142,13 @@ finish-at (c ∷ d ∷ t) (suc i) h = go (finish-at (d ∷ t) i (omega arith))
     go (inl a) = inl (ap suc (a .0), a .1)
     go (inr a) = inr ((λ e. a .0 (omega arith)), a .1)
 
--- outside 0622 to 0626
-abbrev pub Outside : ℕ → Type 0
-Outside c = (c < alefMadda) ⊎ (yehHamza < c)
-
-pub outside : (c : ℕ) → both (leb alefMadda c) (leb c yehHamza) ≡ false → Outside c
-outside c e = by (leb alefMadda c)
-    (λ t. inr (leb-false c yehHamza (sym (ap (λ (b : Bool). both b (leb c yehHamza)) t) ∙ e)))
-    (λ t. inl (leb-false alefMadda c t))
-
-outside-five : (c : ℕ) → (c ≡ alefMadda → ⊥) → (c ≡ alefHamzaAbove → ⊥) → (c ≡ wawHamza → ⊥) → (c ≡ alefHamzaBelow → ⊥) → (c ≡ yehHamza → ⊥) → Outside c
-outside-five c a b d e f = by (leb alefMadda c)
-    (λ t. let l = leb-true alefMadda c t in inr (omega arith))
-    (λ t. inl (leb-false alefMadda c t))
-
 module _ (L T F : Type 0) (c d e : ℕ) where
   at-last : L → e ≡ last d → Near L T F c d → Change L T F c e
   unfolding last
   at-last l q (same m f p) = by (both (leb alefMadda d) (leb d yehHamza))
       (λ t. last-hamza l (rw p at (leb-true alefMadda d (both-0 (leb alefMadda d) (leb d yehHamza) t))) (rw p at (leb-true d yehHamza (both-1 (leb alefMadda d) (leb d yehHamza) t)))
       (q ∙ ap (λ (b : Bool). pick b hamza d) t))
-      (λ t. stays m f (subst Outside p (outside d t)) (q ∙ ap (λ (b : Bool). pick b hamza d) t ∙ p))
+      (λ t. stays m f (subst NoHamza p (outside d t)) (q ∙ ap (λ (b : Bool). pick b hamza d) t ∙ p))
   at-last l q (maqsura x z p r) = last-yeh x z p (q ∙ ap last r)
   at-last l q (verbal x p r) = fourth-alef x p (q ∙ ap last r)
 
@@ -174,7 +161,7 @@ module _ (L T F : Type 0) (c d e : ℕ) where
       (λ t4. by (eqb d alefHamzaBelow) (λ t. other-alef l (inr (inr (sym p ∙ eqb-true d alefHamzaBelow t))) (q ∙ rw (t2, t3, t4, t)))
       (λ t5. by (eqb d yehHamza) (λ t. other-yeh l (sym p ∙ eqb-true d yehHamza t) (q ∙ rw (t2, t3, t4, t5, t)))
       (λ t6. stays m f
-      (subst Outside p (outside-five d (eqb-false d alefMadda t2) (eqb-false d alefHamzaAbove t3) (eqb-false d wawHamza t4) (eqb-false d alefHamzaBelow t5) (eqb-false d yehHamza t6)))
+      (subst NoHamza p (none-of-five d (eqb-false d alefMadda t2) (eqb-false d alefHamzaAbove t3) (eqb-false d wawHamza t4) (eqb-false d alefHamzaBelow t5) (eqb-false d yehHamza t6)))
       (q ∙ rw (t2, t3, t4, t5, t6) p))))))
   at-other l q (maqsura x z p r) = absurd (l x)
   at-other l q (verbal x p r) = fourth-alef x p (q ∙ ap other r)

@@ -13,13 +13,13 @@ use Rattle.definition.specs.Endings.{joined, endings, maqsuraIfFailed}
 use Rattle.definition.specs.Fronts.{Fronting, prefixStep4Verb}
 use Rattle.definition.specs.Finish.{finish}
 use Rattle.definition.specs.Stem.{cutting, fronting, stemOf, stem, cuts, chain, back, applied, front, headLetter, run}
-use Rattle.definition.specs.Demand3.{InOrder, Change, Plain, AllOf, isApplied, place, Demand3}
+use Rattle.definition.specs.Demand3.{InOrder, Change, NoKey, Plain, AllOf, isApplied, place, Demand3}
 use Rattle.definition.proofs.Cutting.{in-turn}
 use Rattle.definition.proofs.Fronting.{Fourth, fourth, head-in}
 use Rattle.definition.proofs.Lengths.{head-short, maqsura-if-length}
 use Rattle.definition.proofs.Whole.{kept, fronted, runOf, run-is, parts-of, letters-of, size-of, least-of, most-of}
 use Rattle.definition.proofs.Changed.{changed}
-use Rattle.definition.proofs.Plain.{NoKey, normalise-plain, all-append, all-left, all-right, all-getD, all-from, all-head, changed-plain}
+use Rattle.definition.proofs.Plain.{normalise-plain, all-append, all-left, all-right, all-getD, all-from, all-head, changed-plain}
 
 -- for a normalised word n of kind k
 module _ (k : Kind) (n : Word) where

@@ -24,5 +24,6 @@ pub mod Whole
 pub mod Changed
 pub mod OneChange
 pub mod Plain
+pub mod Twice
 pub mod Demand3
 pub mod Only

@@ -5,7 +5,7 @@ use mathlib.Core.Logic.{_⊎_}
 use mathlib.Core.List.{[], _∷_, _++_, map}
 use Prim.Native.Nat.{ℕ, _≤_, _<_}
 use lib.ListN.{length}
-use Rattle.definition.specs.Letters.{hamza, alef, waw, yeh}
+use Rattle.definition.specs.Letters.{hamza, alefHamzaAbove, alef, beh, waw, yeh}
 use Rattle.definition.specs.Words.{Word, every, beginsWith, endsWith}
 use Rattle.definition.specs.Tables.{Table, «A_0», «A_1», «A_2», «A_21»}
 use Rattle.definition.specs.Search.{rowAt, longest}
@@ -15,17 +15,19 @@ use Rattle.definition.specs.Normal.{normal, normalise}
 use Rattle.definition.specs.Endings.{SuffixStep, Cutting, cut, endings, suffixAllAlefMaqsura, allEndings, maqsuraIfFailed}
 use Rattle.definition.specs.Finish.{last, other, finish}
 use Rattle.definition.specs.Stem.{cutting, stem}
-use Rattle.definition.specs.Demand3.{Demand3}
+use Rattle.definition.specs.Demand3.{NoKey, NoHamza, AllOf, Demand3}
 use Rattle.definition.specs.Facts.{Longest, distinct, allTables, plainLetter, noPlainKey, replaced, Idle, AllCuts, NotNoonAlef, cutWord}
 use Rattle.definition.specs.Examples.{computed, twelve, work, examples, samples, normalised, normalSamples}
 use Rattle.definition.specs.Listed.{EveryClassListed}
 use Rattle.definition.proofs.Examples.{examples-right}
-use Rattle.definition.proofs.Finish.{finish-all}
+use Rattle.definition.proofs.Finish.{finish-joined, finish-all}
 use Rattle.definition.proofs.Listed.{every-class-listed}
 use Rattle.definition.proofs.Rows.{last-rows, other-rows, maqsura-row}
 use Rattle.definition.proofs.Leave.{all-endings}
 use Rattle.definition.proofs.Unique.{rigid-front, rigid-end, longest-is, distinct-all}
-use Rattle.definition.proofs.Passed.{ranges-of, plain-of, no-plain-keys, plain-normal, plain-word}
+use Rattle.definition.proofs.Passed.{ranges-of, plain-of, key-free-word, no-plain-keys, plain-normal, plain-word}
+use Rattle.definition.proofs.Plain.{normalise-plain}
+use Rattle.definition.proofs.Twice.{normalise-joined, normalise-twice, finish-free, finish-stays, finish-twice, finish-apart, finish-with-none}
 use Rattle.definition.proofs.Again.{again-ends}
 use Rattle.definition.proofs.NoonAlef.{no-noon-alef}
 use Rattle.definition.proofs.Only.{demand3-only, no-cuts}
@@ -91,6 +93,20 @@ main-plain = plain-normal
 pub main-plain-word : (w : Word) → every plainLetter w ≡ true → normalise w ≡ w
 main-plain-word = plain-word
 
+-- item 2 of two words joined is item 2 of each, joined
+pub main-normalise-joined : (u v : Word) → normalise (u ++ v) ≡ normalise u ++ normalise v
+main-normalise-joined = normalise-joined
+
+-- no letter that item 2 leaves is a key of A_0, and letters that are none it leaves as they are: so twice is once
+pub main-no-key : (w : Word) → AllOf NoKey (normalise w)
+main-no-key = normalise-plain
+
+pub main-key-free : (w : Word) → AllOf NoKey w → normalise w ≡ w
+main-key-free = key-free-word
+
+pub main-normalise-twice : (w : Word) → normalise (normalise w) ≡ normalise w
+main-normalise-twice = normalise-twice
+
 -- a step that is repeated as often as the word has letters ends where it takes no row
 pub main-again : (s : SuffixStep) (n : ℕ) (v : Cutting) → length (v .text) ≤ n → (x : Cutting) × (again n (cut s) v ≡ done x) × Idle s x
 main-again = again-ends
@@ -102,6 +118,27 @@ main-noon-alef = no-noon-alef
 -- item 5: the last letter changes as a last letter, and each before it as another
 pub main-finish : (w : Word) (c : ℕ) → finish (w ++ (c ∷ [])) ≡ map other w ++ (last c ∷ [])
 main-finish = finish-all
+
+-- it leaves none of 0622 to 0626, and a word with none of them as it is: so twice is once
+pub main-no-hamza : (w : Word) → AllOf NoHamza (finish w)
+main-no-hamza = finish-free
+
+pub main-hamza-free : (w : Word) → AllOf NoHamza w → finish w ≡ w
+main-hamza-free = finish-stays
+
+pub main-finish-twice : (w : Word) → finish (finish w) ≡ finish w
+main-finish-twice = finish-twice
+
+-- Item 5 of two words joined is another thing than item 5 of each, joined: every letter of the first changes as another, also its last.
+pub main-finish-joined : (u : Word) (c : ℕ) (v : Word) → finish (u ++ (c ∷ v)) ≡ map other u ++ finish (c ∷ v)
+main-finish-joined = finish-joined
+
+-- 0623 and 0628 show it, and no words of fewer letters do: with an empty word both are the same
+pub main-finish-apart : (finish (alefHamzaAbove ∷ beh ∷ []) ≡ alef ∷ beh ∷ []) × (finish (alefHamzaAbove ∷ []) ++ finish (beh ∷ []) ≡ hamza ∷ beh ∷ [])
+main-finish-apart = finish-apart
+
+pub main-finish-none : (w : Word) → (finish ([] ++ w) ≡ finish [] ++ finish w) × (finish (w ++ []) ≡ finish w ++ finish [])
+main-finish-none = finish-with-none
 
 -- the letters that items 5 and 3 name in words are the rows of A_1, A_2 and A_21
 pub main-last : (c : ℕ) → last c ≡ replaced «A_1» (hamza ∷ hamza ∷ hamza ∷ []) c

@@ -1,4 +1,4 @@
--- The plain letters are those of the two ranges, and none is a key of A_0, so that item 2 keeps each, and a word of plain letters alone. Assumes nothing.
+-- Item 2 keeps a letter that is no key of A_0, and a word of such letters. The plain letters, those of the two ranges, are such letters. Assumes nothing.
 use mathlib.Core.Path.{_≡_, refl, sym, ap, _∙_}
 use mathlib.Core.Bool.{true, not}
 use mathlib.Core.Logic.{_⊎_, inl, inr}
@@ -8,10 +8,11 @@ use native.Mathlib.Omega.{arith}
 use lib.Dec.{leb}
 use lib.ListN.{length}
 use borrow.Author.Tests.{leb-true, le-leb, not-true}
-use Rattle.definition.specs.Words.{Word, every, beginsWith}
+use Rattle.definition.specs.Words.{Word, both, every, beginsWith}
 use Rattle.definition.specs.Tables.{«A_0»}
 use Rattle.definition.specs.Search.{rowAt, longest}
 use Rattle.definition.specs.Normal.{given, normal, normalise}
+use Rattle.definition.specs.Demand3.{NoKey, AllOf}
 use Rattle.definition.specs.Facts.{distinct, inRange, plainLetter, noPlainKey}
 use Rattle.definition.proofs.Match.{both-0, both-1, either-right, by, clash, begins-split}
 use Rattle.definition.proofs.Found.{all-at, row-behind}
@@ -37,36 +38,44 @@ unfolding plainLetter
 plain-of c (inl h) = rw (range-in 0x621 0x63A c h) refl
 plain-of c (inr h) = either-right (inRange 0x621 0x63A c) (inRange 0x641 0x64A c) (range-in 0x641 0x64A c h)
 
--- ---- the one test of the keys
+-- ---- a letter that is no key
+
+-- a key in front of the word c is c
+only-letter : (c : ℕ) (key : Word) → 1 ≤ length key → beginsWith (c ∷ []) key ≡ true → key ≡ c ∷ []
+only-letter c [] l m = absurd (omega arith)
+only-letter c (d ∷ []) l m = sym (begins-split (c ∷ []) (d ∷ []) m)
+only-letter c (d ∷ e ∷ key) l m = absurd (omega (arith, ap length (begins-split (c ∷ []) (d ∷ e ∷ key) m)))
+
+no-row : (c : ℕ) → NoKey c → longest (beginsWith (c ∷ [])) «A_0» ≡ length «A_0»
+no-row c n =
+    longest-none (beginsWith (c ∷ [])) «A_0» (λ r h m. n r h (only-letter c (rowAt «A_0» r .letters) (some-letter «A_0» (both-0 (distinct «A_0») _ distinct-all) r h) m))
+
+key-free : (c : ℕ) → NoKey c → normal c ≡ c ∷ []
+unfolding normal given
+key-free c n = ap (λ (r : ℕ). given c (rowAt «A_0» r .class)) (no-row c n) ∙ ap (given c) (row-behind «A_0»)
+
+pub key-free-word : (w : Word) → AllOf NoKey w → normalise w ≡ w
+unfolding normalise
+key-free-word [] h = refl
+key-free-word (c ∷ w) h = λ i. key-free c (h .0) i ++ key-free-word w (h .1) i
+
+-- ---- plain letters, by the one test of the keys
 
 pub no-plain-keys : every noPlainKey «A_0» ≡ true
 unfolding «A_0» plainLetter
 no-plain-keys = refl
 
--- a key in front of the word c begins with c
-head-same : (c d : ℕ) (w : Word) → c ∷ [] ≡ d ∷ w → d ≡ c
-head-same c d w e = cc
+plain-no-key : (c : ℕ) → plainLetter c ≡ true → NoKey c
+plain-no-key c p r h e =
+    let t : both (not (plainLetter c)) true ≡ true = ap (every (λ (d : ℕ). not (plainLetter d))) (sym e) ∙ all-at noPlainKey «A_0» no-plain-keys r h in
+    clash p (not-true (plainLetter c) (both-0 (not (plainLetter c)) true t))
 
-not-in-front : (c : ℕ) → plainLetter c ≡ true → (key : Word) → 1 ≤ length key → every (λ (d : ℕ). not (plainLetter d)) key ≡ true
-    → beginsWith (c ∷ []) key ≡ true → ⊥
-not-in-front c p [] l n m = omega arith
-not-in-front c p (d ∷ key) l n m =
-    let e : d ≡ c = head-same c d _ (begins-split (c ∷ []) (d ∷ key) m) in
-    clash p (ap plainLetter (sym e) ∙ not-true (plainLetter d) (both-0 (not (plainLetter d)) (every (λ (x : ℕ). not (plainLetter x)) key) n))
-
-no-row : (c : ℕ) → plainLetter c ≡ true → longest (beginsWith (c ∷ [])) «A_0» ≡ length «A_0»
-no-row c p =
-    longest-none (beginsWith (c ∷ [])) «A_0» (λ r h m. not-in-front c p (rowAt «A_0» r .letters)
-    (some-letter «A_0» (both-0 (distinct «A_0») _ distinct-all) r h) (all-at noPlainKey «A_0» no-plain-keys r h) m)
+plain-no-keys : (w : Word) → every plainLetter w ≡ true → AllOf NoKey w
+plain-no-keys [] e = tt
+plain-no-keys (c ∷ w) e = (plain-no-key c (both-0 (plainLetter c) (every plainLetter w) e), plain-no-keys w (both-1 (plainLetter c) (every plainLetter w) e))
 
 pub plain-normal : (c : ℕ) → plainLetter c ≡ true → normal c ≡ c ∷ []
-unfolding normal given
-plain-normal c p = ap (λ (r : ℕ). given c (rowAt «A_0» r .class)) (no-row c p) ∙ ap (given c) (row-behind «A_0»)
+plain-normal c p = key-free c (plain-no-key c p)
 
 pub plain-word : (w : Word) → every plainLetter w ≡ true → normalise w ≡ w
-unfolding normalise
-plain-word [] e = refl
-plain-word (c ∷ w) e =
-    let h = plain-normal c (both-0 (plainLetter c) (every plainLetter w) e) in
-    let t = plain-word w (both-1 (plainLetter c) (every plainLetter w) e) in
-    λ i. h i ++ t i
+plain-word w e = key-free-word w (plain-no-keys w e)

@@ -14,10 +14,9 @@ use Rattle.definition.specs.Tables.{Row, «A_0», «A_4»}
 use Rattle.definition.specs.Search.{rowAt, longest}
 use Rattle.definition.specs.Normal.{gives, listedFor, given, normal, normalise}
 use Rattle.definition.specs.Fronts.{Applied}
-use Rattle.definition.specs.Demand3.{HeadOf, noHead, oneHead, Change, last-hamza, other-alef, other-waw, other-yeh, last-yeh, fourth-alef, stays, Plain, AllOf}
+use Rattle.definition.specs.Demand3.{HeadOf, noHead, oneHead, Change, last-hamza, other-alef, other-waw, other-yeh, last-yeh, fourth-alef, stays, NoKey, NoHamza, Plain, AllOf}
 use Rattle.definition.proofs.Match.{both-0, both-1, same-refl}
 use Rattle.definition.proofs.Found.{Found, all-at, longest-found, longest-longest, row-behind, no-letters}
-use Rattle.definition.proofs.Changed.{Outside}
 
 -- ---- all letters of a word
 module _ (P : ℕ → Type 0) where
@@ -50,9 +49,6 @@ module _ (P : ℕ → Type 0) where
       subst (AllOf P) (sym q) (all-getD n i (omega arith) a, tt)
 
 -- ---- keys
-abbrev pub NoKey : ℕ → Type 0
-NoKey c = (r : ℕ) → r < length «A_0» → rowAt «A_0» r .letters ≡ c ∷ [] → ⊥
-
 abbrev otherRow : ℕ → Row → Bool
 otherRow c k = not (same (k .letters) (c ∷ []))
 
@@ -121,7 +117,7 @@ normalise-plain [] = tt
 normalise-plain (c ∷ w) = all-append NoKey (normal c) (normalise w) (normal-plain c) (normalise-plain w)
 
 -- ---- what becomes of a kept letter
-plain : (d e : ℕ) → d ≡ e → NoKey e → Outside e → Plain d
+plain : (d e : ℕ) → d ≡ e → NoKey e → NoHamza e → Plain d
 plain d e q n o = subst Plain (sym q) (record { noKey = n; noHamza = o })
 
 pub changed-plain : (L T F : Type 0) (c d : ℕ) → Change L T F c d → NoKey c → Plain d

@@ -13,7 +13,7 @@ use Rattle.definition.specs.Endings.{suffixAllAlefMaqsura}
 use Rattle.definition.specs.Finish.{last, other}
 use Rattle.definition.specs.Facts.{replaced}
 use Rattle.definition.proofs.Match.{by}
-use Rattle.definition.proofs.Stays.{last-stays}
+use Rattle.definition.proofs.Stays.{none-of-five, last-stays}
 
 -- two functions that agree at k agree at c, where c is k
 agree-at : (f g : ℕ → ℕ) (c k : ℕ) → f k ≡ g k → eqb c k ≡ true → f c ≡ g c
@@ -29,7 +29,7 @@ last-rows c =
     (λ t4. by (eqb c alefHamzaBelow) (agree-at last put c alefHamzaBelow refl)
     (λ t5. by (eqb c yehHamza) (agree-at last put c yehHamza refl)
     (λ t6. rw (t2, t3, t4, t5, t6)
-    (last-stays c (eqb-false c alefMadda t2) (eqb-false c alefHamzaAbove t3) (eqb-false c wawHamza t4) (eqb-false c alefHamzaBelow t5) (eqb-false c yehHamza t6)))))))
+    (last-stays c (none-of-five c (eqb-false c alefMadda t2) (eqb-false c alefHamzaAbove t3) (eqb-false c wawHamza t4) (eqb-false c alefHamzaBelow t5) (eqb-false c yehHamza t6))))))))
 
 pub other-rows : (c : ℕ) → other c ≡ replaced «A_2» (alef ∷ waw ∷ yeh ∷ []) c
 unfolding other «A_2» longest longer same beginsWith

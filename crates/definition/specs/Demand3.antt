@@ -119,10 +119,18 @@ ChangeAt w s i =
     ((isApplied prefixStep4Verb (applied w) ≡ true) × (i ≡ length (headLetter w) + place (applied w)))
     (getD (headLetter w ++ run w) i 0) (getD s i 0)
 
+-- no key of A_0
+abbrev pub NoKey : ℕ → Type 0
+NoKey c = (r : ℕ) → r < length «A_0» → rowAt «A_0» r .letters ≡ c ∷ [] → ⊥
+
+-- none of 0622 to 0626
+abbrev pub NoHamza : ℕ → Type 0
+NoHamza c = (c < alefMadda) ⊎ (yehHamza < c)
+
 -- neither a key of A_0 nor one of 0622 to 0626
 pub record Plain (c : ℕ) : Type 0 where
-  pub noKey : (r : ℕ) → r < length «A_0» → rowAt «A_0» r .letters ≡ c ∷ [] → ⊥
-  pub noHamza : (c < alefMadda) ⊎ (yehHamza < c)
+  pub noKey : NoKey c
+  pub noHamza : NoHamza c
 
 abbrev pub AllOf : (ℕ → Type 0) → Word → Type 0
 AllOf P [] = Unit {0}
