@@ -54,7 +54,7 @@ size-strict cs m n h k =
 
 -- ---- where letters start
 
-starts-lead : (b : ℕ) → Lead b → starts b ≡ true
+pub starts-lead : (b : ℕ) → Lead b → starts b ≡ true
 starts-lead b l =
     ⊎-elim (λ (w : b < 0x80). rw (lt-ltb b 0x80 w) refl)
     (λ (w : 0xC0 ≤ b). by (ltb b 0x80) (λ e. rw e refl) (λ e. rw (e, le-leb 0xC0 b w) refl)) l

@@ -101,7 +101,7 @@ match-front cs key r s k e =
 
 -- ---- a cut before a lead byte is a cut between letters
 
-abbrev StartsLead : List ℕ → Type 0
+abbrev pub StartsLead : List ℕ → Type 0
 StartsLead [] = Unit {0}
 StartsLead (b ∷ bs) = Lead b
 
@@ -117,7 +117,7 @@ peel (y ∷ t) x (z ∷ p) q e c l =
     let z≡y : y ≡ z = head-eq-of-cons-eq e in
     (w .0, (λ i. sym z≡y i ∷ w .1 i), w .2)
 
-cut : (cs p q : List ℕ) → encode cs ≡ p ++ q → StartsLead q → (u : List ℕ) × (v : List ℕ) × (cs ≡ u ++ v) × (p ≡ encode u) × (q ≡ encode v)
+pub cut : (cs p q : List ℕ) → encode cs ≡ p ++ q → StartsLead q → (u : List ℕ) × (v : List ℕ) × (cs ≡ u ++ v) × (p ≡ encode u) × (q ≡ encode v)
 unfolding encode
 cut [] [] q e l = ([], [], refl, refl, sym e)
 cut [] (a ∷ p) q e l = absurd (nil≢cons e)
@@ -135,13 +135,14 @@ cut (c ∷ cs) (a ∷ p) q e l =
       ih .4,
     )
 
-starts : (c : ℕ) (cs : List ℕ) → StartsLead (encode (c ∷ cs))
+pub encode-starts : (cs : List ℕ) → StartsLead (encode cs)
 unfolding encode
-starts c cs = rw (shape c .is) (shape c .lead)
+encode-starts [] = tt
+encode-starts (c ∷ cs) = rw (shape c .is) (shape c .lead)
 
 -- a match of bytes at the end of a text is one of letters
 pub match-back : (cs p : List ℕ) (k : ℕ) (key : List ℕ) → Scalars cs → Scalars (k ∷ key) → encode cs ≡ p ++ encode (k ∷ key) → (u : List ℕ) × (cs ≡ u ++ (k ∷ key)) × (p ≡ encode u)
 match-back cs p k key s t e =
-    let w = cut cs p (encode (k ∷ key)) e (starts k key) in
+    let w = cut cs p (encode (k ∷ key)) e (encode-starts (k ∷ key)) in
     let z : w .1 ≡ k ∷ key = encode-injective (w .1) (k ∷ key) (scalars-right (w .0) (w .1) (subst Scalars (w .2) s)) t (sym (w .4)) in
     (w .0, w .2 ∙ ap (λ (x : List ℕ). w .0 ++ x) z, w .3)
