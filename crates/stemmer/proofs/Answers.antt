@@ -40,16 +40,29 @@ module _ (word : List ℕ) where
   unfolding checked
   accepted h e = rw (le-ltb mostBytes (length word) h, e) refl
 
--- ---- an accepted word: its length, and its letters
+-- ---- a well-formed word's letters, and an accepted word's length
+
+letters-are : (word cs : List ℕ) → decode word ≡ some cs → letters word ≡ cs
+unfolding letters
+letters-are word cs e = rw e refl
+
+pub letters-encoded : (cs : Word) → Scalars cs → letters (encode cs) ≡ cs
+letters-encoded cs s = letters-are (encode cs) cs (main-decodes cs s)
+
+module _ (word : List ℕ) (w : wellFormed word ≡ true) where
+  letters-of : main-text word w .0 ≡ letters word
+  letters-of = let m = main-text word w in sym (ap letters (m .2) ∙ letters-encoded (m .0) (m .1))
+
+  pub formed-scalars : Scalars (letters word)
+  formed-scalars = subst Scalars letters-of (main-text word w .1)
+
+  pub formed-spelling : word ≡ encode (letters word)
+  formed-spelling = main-text word w .2 ∙ ap encode letters-of
 
 both-passed : (long formed : Bool) → pick long Overlong (pick (not formed) Malformed Accepted) ≡ Accepted → (long ≡ false) × (formed ≡ true)
 both-passed true formed e = let z : _≡_ {A = ℕ} 0 1 = cc in absurd (omega arith)
 both-passed false true e = (refl, refl)
 both-passed false false e = let z : _≡_ {A = ℕ} 0 1 = cc in absurd (omega arith)
-
-letters-are : (word cs : List ℕ) → decode word ≡ some cs → letters word ≡ cs
-unfolding letters
-letters-are word cs e = rw e refl
 
 module _ (word : List ℕ) (e : checked word ≡ Accepted) where
   passed : (ltb mostBytes (length word) ≡ false) × (wellFormed word ≡ true)
@@ -59,16 +72,14 @@ module _ (word : List ℕ) (e : checked word ≡ Accepted) where
   pub short : length word ≤ mostBytes
   short = ltb-false mostBytes (length word) (passed .0)
 
-  letters-of : main-text word (passed .1) .0 ≡ letters word
-  letters-of =
-      let m = main-text word (passed .1) in
-      sym (letters-are word (m .0) (ap decode (m .2) ∙ main-decodes (m .0) (m .1)))
+  pub formed : wellFormed word ≡ true
+  formed = passed .1
 
   pub scalars : Scalars (letters word)
-  scalars = subst Scalars letters-of (main-text word (passed .1) .1)
+  scalars = formed-scalars word formed
 
   pub spelling : word ≡ encode (letters word)
-  spelling = main-text word (passed .1) .2 ∙ ap encode letters-of
+  spelling = formed-spelling word formed
 
 -- ---- code 3 says that the output is shorter than the result
 no-room : (r : Answer) (n room : ℕ) → r ≡ fitting n room → n ≤ enoughRoom → codeOf r ≡ 3 → room < enoughRoom
@@ -76,6 +87,14 @@ unfolding fitting
 no-room r n room e h z = by (ltb room n)
     (λ t. omega (arith, ltb-true room n t))
     (λ t. let q : codeOf r ≡ 0 = ap codeOf e ∙ ap (λ (b : Bool). codeOf (pick b NoRoom (Done n))) t in absurd (omega arith))
+
+-- ---- the answer, by the outcome of the checks
+pub after : (f : Word → Word) (word : List ℕ) (room : ℕ) (c : Checked) → checked word ≡ c → afterChecks c (fitting (length (bytesOf f word)) room) ≡ answer f word room
+unfolding answer
+after f word room c e = sym (ap (λ (x : Checked). afterChecks x (fitting (length (bytesOf f word)) room)) e)
+
+pub over-long : (f : Word → Word) (word : List ℕ) (room : ℕ) → mostBytes < length word → answer f word room ≡ TooLong
+over-long f word room h = sym (after f word room Overlong (sym (overlong word h)))
 
 -- ---- the law of the entries: what is promised of the one that f belongs to, for each outcome of the checks
 module _ (f : Word → Word) (word old : List ℕ) where
@@ -86,24 +105,20 @@ module _ (f : Word → Word) (word old : List ℕ) where
   out-by : (a : Answer) → a ≡ answer f word (length old) → outAfter a (bytesOf f word) old ≡ outAfter (answer f word (length old)) (bytesOf f word) old
   out-by a e = ap (λ (x : Answer). outAfter x (bytesOf f word) old) e
 
-  after : (c : Checked) → checked word ≡ c → afterChecks c (fitting (length (bytesOf f word)) (length old)) ≡ answer f word (length old)
-  unfolding answer
-  after c e = sym (ap (λ (x : Checked). afterChecks x (fitting (length (bytesOf f word)) (length old))) e)
-
   pub refused-overlong : checked word ≡ Overlong → Promised TooLong old
   unfolding outAfter
-  refused-overlong e = (after Overlong e, (out-by TooLong (after Overlong e), λ z. absurd (omega arith)))
+  refused-overlong e = (after f word (length old) Overlong e, (out-by TooLong (after f word (length old) Overlong e), λ z. absurd (omega arith)))
 
   pub refused-malformed : checked word ≡ Malformed → Promised NotWellFormed old
   unfolding outAfter
-  refused-malformed e = (after Malformed e, (out-by NotWellFormed (after Malformed e), λ z. absurd (omega arith)))
+  refused-malformed e = (after f word (length old) Malformed e, (out-by NotWellFormed (after f word (length old) Malformed e), λ z. absurd (omega arith)))
 
   -- the text of an environment that stands for what f makes of the word's letters, delivered
   pub delivered : checked word ≡ Accepted → (v : Env) → Stands v (started (f (letters word))) → (r : Answer) (new : List ℕ)
       → r ≡ fitting (v .limit) (length old) → new ≡ outAfter r (take (v .limit) (v .current)) old → Promised r new
   unfolding bytesOf
   delivered e v st r new a o =
-      let q : r ≡ answer f word (length old) = a ∙ ap (λ (n : ℕ). fitting n (length old)) (st .sized) ∙ after Accepted e in
+      let q : r ≡ answer f word (length old) = a ∙ ap (λ (n : ℕ). fitting n (length old)) (st .sized) ∙ after f word (length old) Accepted e in
       (q, (o ∙ ap (λ (bs : List ℕ). outAfter r bs old) (st .bytes) ∙ out-by r q, no-room r (v .limit) (length old) a (st .within)))
 
 -- ---- what a Done says
@@ -131,17 +146,13 @@ module _ (f : Word → Word) (word : List ℕ) (room n : ℕ) (e : answer f word
 pub done-count : (word : List ℕ) (room n : ℕ) → answer stem word room ≡ Done n → length (bytesOf stem word) ≡ n
 done-count = count-is stem
 
-pub over-long : (word : List ℕ) (room : ℕ) → mostBytes < length word → answer stem word room ≡ TooLong
-unfolding answer
-over-long word room h = sym (ap (λ (x : Checked). afterChecks x (fitting (length (bytesOf stem word)) room)) (overlong word h))
-
 pub done-fits : (word : List ℕ) (room n : ℕ) → answer stem word room ≡ Done n → n ≤ room
 done-fits = count-fits stem
 
 -- ---- the output
 
 -- the count's bytes of the output are the result
-front : (f : Word → Word) (word old : List ℕ) (a : Answer) → a ≡ answer f word (length old) → codeOf a ≡ 0
+pub front : (f : Word → Word) (word old : List ℕ) (a : Answer) → a ≡ answer f word (length old) → codeOf a ≡ 0
     → take (countOf a) (outAfter a (bytesOf f word) old) ≡ bytesOf f word
 unfolding outAfter
 front f word old (Done n) e z = take-at (bytesOf f word) (drop n old) n (count-is f word (length old) n (sym e))

@@ -1,2 +1,4 @@
--- The laws that the proofs of the entries cite.
+-- The main theorems, and the laws that the proofs of the entries cite.
+pub mod Main
 pub mod Answers
+pub mod Blocks

@@ -1,2 +1,3 @@
--- What the entries answer.
+-- What the entries answer, and what index builders do with it.
 pub mod Entries
+pub mod Blocks
