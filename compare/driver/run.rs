@@ -1,7 +1,9 @@
 // run SEED SECONDS WORDS PARTS LIST: compares the library with the Rust; compare/run builds and starts it.
-// SECONDS is the time limit of each part, WORDS the number of random words in each of the parts random and damaged,
+// SECONDS is the time limit of each part, WORDS the number of random words in each of the parts random and damaged, of which blocks has a tenth,
 // PARTS the parts' names parted by commas, LIST a file of words or nothing.
 
+#[path = "blocks.rs"]
+mod blocks;
 #[path = "check.rs"]
 mod check;
 #[path = "interface.rs"]
@@ -241,6 +243,26 @@ fn random(run: &mut Run, words: &mut Words, count: u64, damaged: bool) {
     run.end(&what);
 }
 
+/// Random words cut in two at every byte, and their results handed in again; also words of ligatures, which grow past 255 bytes.
+fn in_blocks(run: &mut Run, words: &mut Words, count: u64) {
+    run.begin("blocks");
+    let mut tried = 0;
+    while tried < count && run.start.elapsed() < run.limit {
+        let word = if tried < 86 { "\u{FEFB}".repeat(tried as usize).into_bytes() } else { words.word() };
+        let text = std::str::from_utf8(&word).expect("a random word is well formed");
+        match blocks::compare(text, tried as usize) {
+            Ok(compared) => run.in_part += compared,
+            Err(why) => {
+                println!("blocks: a difference at the word {}: {}", hex(&word), why);
+                println!("{} compared, 1 different", run.compared + run.in_part + 1);
+                std::process::exit(1)
+            }
+        }
+        tried += 1;
+    }
+    run.end(&format!("{} words cut at every byte, and their results handed in again", tried));
+}
+
 fn list(run: &mut Run, path: &str) {
     run.begin("list");
     run.checker.all_lengths = true;
@@ -282,9 +304,10 @@ fn main() {
             "lengths" => lengths(&mut run),
             "random" => random(&mut run, &mut words, number(3), false),
             "damaged" => random(&mut run, &mut words, number(3), true),
+            "blocks" => in_blocks(&mut run, &mut words, number(3) / 10),
             "list" => list(&mut run, &a[5]),
             _ => {
-                eprintln!("no part '{}': the parts are version, lengths, bytes, random, damaged, list, scalars, forms and letters", part);
+                eprintln!("no part '{}': the parts are version, lengths, bytes, random, damaged, blocks, list, scalars, forms and letters", part);
                 std::process::exit(2)
             }
         }
