@@ -47,11 +47,14 @@ typedef struct {
 arabic_stemmer_answer arabic_stemmer_stem(const uint8_t *word, size_t word_length, uint8_t *output, size_t output_length);
 
 /* The word normalised, with nothing cut: vowel marks, the tatweel and some punctuation deleted, digits and presentation forms
- * replaced. */
+ * replaced. A well-formed text of any length may be normalised in blocks of up to 255 bytes, each cut before a byte that is not
+ * 0x80 to 0xBF: the results, joined, do not depend on where. A result normalised again is the same. A word of up to 191 bytes
+ * has a result of at most 255; a longer result is refused when it is handed in again, and has to be cut. */
 arabic_stemmer_answer arabic_stemmer_normalise(const uint8_t *word, size_t word_length, uint8_t *output, size_t output_length);
 
 /* The stemmer's last step alone, on the word as given: a last letter U+0622 to U+0626 becomes U+0621; elsewhere these lose
- * their hamza or madda. */
+ * their hamza or madda. The result has as many bytes as the word, and finished again it is the same. It is for whole words:
+ * in blocks, the last letter of each would change as a last letter. */
 arabic_stemmer_answer arabic_stemmer_finish(const uint8_t *word, size_t word_length, uint8_t *output, size_t output_length);
 
 /* Whether the word is defined. Codes are 0, 1 and 2; there is no output. */
