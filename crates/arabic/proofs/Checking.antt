@@ -1,5 +1,5 @@
 -- The kind check: the row of A_3 in front, its guard and the letter count decide as the definition does. Assumes nothing.
-use mathlib.Core.Path.{_≡_, sym, ap}
+use mathlib.Core.Path.{_≡_, refl, sym, ap}
 use mathlib.Core.List.{[], _∷_}
 use mathlib.Core.Option.{Option, none, some}
 use Prim.Native.Nat.{ℕ, _≤_, _<_}
@@ -7,10 +7,10 @@ use lib.ListN.{length}
 use Rattle.definition.specs.Words.{Word, beginsWith}
 use Rattle.definition.specs.Tables.{«A_3»}
 use Rattle.definition.specs.Search.{Rule, rule, longest, leastLetters, taken}
-use Rattle.definition.specs.Kind.{OPEN, DEFINED, kindBy, kind}
+use Rattle.definition.specs.Kind.{Kind, OPEN, DEFINED, kindBy, kind}
 use Rattle.snowball.specs.declared.among.Found.{Found}
 use Rattle.snowball.specs.Search.{Ahead}
-use Rattle.arabic.specs.Kinds.{flags}
+use Rattle.arabic.specs.Kinds.{flags, kindOf}
 use Rattle.arabic.proofs.Guarded.{no-class, too-few, enough}
 
 abbrev check : Rule
@@ -30,3 +30,8 @@ module _ (w : Word) (at : ℕ) (f : Found) (a : Ahead «A_3» w at f) where
 
     pub long-enough : g ≤ n → flags DEFINED ≡ flags (kind w)
     long-enough h = by-row (some (longest (beginsWith w) «A_3»)) (enough (beginsWith w) check (length w) (f .class) (a .class) some1 n g en eg h)
+
+-- the kind can be read off its flags
+pub kind-back : (k : Kind) → kindOf (flags k .defined) ≡ k
+kind-back OPEN = refl
+kind-back DEFINED = refl

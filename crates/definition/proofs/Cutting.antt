@@ -1,5 +1,5 @@
 -- The endings: the word is what is left and the rows cut, each row is listed and was cut in its turn, and two letters stay. Assumes nothing.
-use mathlib.Core.Path.{_≡_, refl, sym, ap, _∙_}
+use mathlib.Core.Path.{_≡_, refl, sym, ap, _∙_, subst}
 use mathlib.Core.Bool.{Bool, true}
 use mathlib.Core.List.{List, [], _∷_, _++_, reverse, reverseAux, append-assoc, append-nil}
 use mathlib.Core.Option.{Option, none, some}
@@ -17,56 +17,74 @@ use Rattle.definition.specs.Kind.{Kind}
 use Rattle.definition.specs.Endings.{SuffixStep, verbStep1, verbStep2a, verbStep2b, verbStep2c, nounStep1b, nounStep2a, nounStep2b, nounStep2c1, nounStep2c2, nounStep3, suffix, Cut, Cutting, ending, joined, cutOff, cutBy, cut, verb, noun, endings, uncut}
 use Rattle.definition.specs.Stem.{without}
 use Rattle.definition.specs.Demand3.{CutFrom, CutInTurn}
+use Rattle.definition.specs.Facts.{Idle}
 use Rattle.definition.proofs.Match.{both-0, both-1, ends-split}
 use Rattle.definition.proofs.Found.{Taken, taken-some, all-at}
-use Rattle.definition.proofs.Triples.{Ends, Keeps, keeps-first, keeps-then, keeps-if, does-again, ends-after}
+use Rattle.definition.proofs.Triples.{Ends, Does, Keeps, weaker, keeps-first, keeps-then, keeps-if, does-again, ends-after}
 
--- a step of the noun
+-- ---- one step: it cuts the row that it takes, or fails and changes nothing
+pub cut-ends : (s : SuffixStep) (v : Cutting) (Q : Cutting → Type 0)
+    → ((r : ℕ) → taken (endsWith (v .text)) (suffix s) (length (v .text)) ≡ some r → Q (cutOff v (record { step = s; row = r })))
+    → Ends Q (λ (x : Cutting). (x ≡ v) × Idle s v) (cut s v)
+unfolding cut
+cut-ends s v Q f = go (taken (endsWith (v .text)) (suffix s) (length (v .text))) refl
+  where
+    go : (o : Option ℕ) → taken (endsWith (v .text)) (suffix s) (length (v .text)) ≡ o → Ends Q (λ (x : Cutting). (x ≡ v) × Idle s v) (cutBy s v o)
+    go none e = (refl, e)
+    go (some r) e = f r e
+
+pub cut-does : (P Q : Cutting → Type 0) (s : SuffixStep)
+    → ((v : Cutting) (r : ℕ) → taken (endsWith (v .text)) (suffix s) (length (v .text)) ≡ some r → P v → Q (cutOff v (record { step = s; row = r })))
+    → Does P Q P (cut s)
+cut-does P Q s f v p = weaker Q (λ (x : Cutting). (x ≡ v) × Idle s v) Q P (λ x q. q) (λ x h. subst P (sym (h .0)) p) (cut s v) (cut-ends s v Q (λ r e. f v r e p))
+
+-- a step of the verb, a step of the noun
+abbrev pub Verbal : SuffixStep → Type 0
+Verbal verbStep1 = Unit {0}
+Verbal verbStep2a = Unit {0}
+Verbal verbStep2b = Unit {0}
+Verbal verbStep2c = Unit {0}
+Verbal nounStep1b = ⊥
+Verbal nounStep2a = ⊥
+Verbal nounStep2b = ⊥
+Verbal nounStep2c1 = ⊥
+Verbal nounStep2c2 = ⊥
+Verbal nounStep3 = ⊥
+
 abbrev pub Nominal : SuffixStep → Type 0
-Nominal verbStep1 = ⊥
-Nominal verbStep2a = ⊥
-Nominal verbStep2b = ⊥
-Nominal verbStep2c = ⊥
-Nominal nounStep1b = Unit {0}
-Nominal nounStep2a = Unit {0}
-Nominal nounStep2b = Unit {0}
-Nominal nounStep2c1 = Unit {0}
-Nominal nounStep2c2 = Unit {0}
-Nominal nounStep3 = Unit {0}
+Nominal s = Verbal s → ⊥
 
 nothing-keeps : (P : Cutting → Type 0) → Keeps P nothing
 nothing-keeps P v p = p
 
--- ---- what every cut of the noun keeps, the noun keeps
+-- ---- what every cut of the verb keeps, the verb keeps; likewise the noun
+pub verb-keeps : (P : Cutting → Type 0) → ((s : SuffixStep) → Verbal s → Keeps P (cut s)) → Keeps P verb
+unfolding verb
+verb-keeps P cut-keeps v =
+    keeps-first P _ (
+      keeps-then P _ _
+          (keeps-then P _ _ (cut-keeps verbStep1 tt) (does-again P P (length (v .text)) (cut verbStep1) (cut-keeps verbStep1 tt)))
+          (keeps-first P _ (cut-keeps verbStep2a tt, (cut-keeps verbStep2c tt, (nothing-keeps P, tt)))),
+      (cut-keeps verbStep2b tt, (cut-keeps verbStep2a tt, tt)),
+    ) v
+
 pub noun-keeps : (P : Cutting → Type 0) → ((s : SuffixStep) → Nominal s → Keeps P (cut s)) → (k : Kind) → Keeps P (noun k)
 unfolding noun
 noun-keeps P cut-keeps k =
     keeps-then P _ _
     (keeps-first P _ (
-      cut-keeps nounStep2c2 tt,
+      cut-keeps nounStep2c2 (λ z. z),
       (
-        keeps-then P _ _ (cut-keeps nounStep1b tt) (keeps-first P _ (cut-keeps nounStep2a tt, (cut-keeps nounStep2b tt, (cut-keeps nounStep2c1 tt, tt)))),
-        (keeps-if P k _ (cut-keeps nounStep2a tt), (cut-keeps nounStep2b tt, (nothing-keeps P, tt))),
+        keeps-then P _ _ (cut-keeps nounStep1b (λ z. z)) (keeps-first P _ (cut-keeps nounStep2a (λ z. z), (cut-keeps nounStep2b (λ z. z), (cut-keeps nounStep2c1 (λ z. z), tt)))),
+        (keeps-if P k _ (cut-keeps nounStep2a (λ z. z)), (cut-keeps nounStep2b (λ z. z), (nothing-keeps P, tt))),
       ),
     ))
-    (cut-keeps nounStep3 tt)
+    (cut-keeps nounStep3 (λ z. z))
 
--- ---- what every cut keeps, all endings together keep
-module _ (P : Cutting → Type 0) (cut-keeps : (s : SuffixStep) → Keeps P (cut s)) where
-  verb-keeps : Keeps P verb
-  unfolding verb
-  verb-keeps v =
-      keeps-first P _ (
-        keeps-then P _ _
-            (keeps-then P _ _ (cut-keeps verbStep1) (does-again P P (length (v .text)) (cut verbStep1) (cut-keeps verbStep1)))
-            (keeps-first P _ (cut-keeps verbStep2a, (cut-keeps verbStep2c, (nothing-keeps P, tt)))),
-        (cut-keeps verbStep2b, (cut-keeps verbStep2a, tt)),
-      ) v
-
-  endings-keep : (k : Kind) (n : Word) → P (uncut n) → P (after (endings k n))
-  unfolding endings
-  endings-keep k n p = ends-after P (endings k n)
-      (keeps-first P _ (keeps-if P k verb verb-keeps, (noun-keeps P (λ s t. cut-keeps s) k, tt)) (uncut n) p)
+-- and what both keep, all endings together keep
+pub endings-keep : (P : Cutting → Type 0) (k : Kind) (n : Word) → Keeps P verb → Keeps P (noun k) → P (uncut n) → P (after (endings k n))
+unfolding endings
+endings-keep P k n v m p = ends-after P (endings k n) (keeps-first P _ (keeps-if P k verb v, (m, tt)) (uncut n) p)
 
 -- ---- every row of an ending has a letter, and its guard is two letters more at least
 abbrev fits : List ℕ → Row → Bool
@@ -149,16 +167,11 @@ module _ (n : Word) where
       }
 
   cut-keeps-kept : (s : SuffixStep) → Keeps (Kept n) (cut s)
-  unfolding cut
-  cut-keeps-kept s v k = go (taken (endsWith (v .text)) (suffix s) (length (v .text))) refl
-    where
-      go : (o : Option ℕ) → taken (endsWith (v .text)) (suffix s) (length (v .text)) ≡ o → Ends (Kept n) (Kept n) (cutBy s v o)
-      go none q = k
-      go (some r) q = cut-kept s v r q k
+  cut-keeps-kept s = cut-does (Kept n) (Kept n) s (cut-kept s)
 
   kept-start : Kept n (uncut n)
   unfolding joined CutBehind
   kept-start = record { whole = sym (append-nil n); cut = tt; least = omega arith; fewer = omega arith }
 
   pub endings-kept : (k : Kind) → Kept n (after (endings k n))
-  endings-kept k = endings-keep (Kept n) cut-keeps-kept k n kept-start
+  endings-kept k = endings-keep (Kept n) k n (verb-keeps (Kept n) (λ s t. cut-keeps-kept s)) (noun-keeps (Kept n) (λ s t. cut-keeps-kept s) k) kept-start

@@ -27,3 +27,5 @@ pub mod Plain
 pub mod Twice
 pub mod Demand3
 pub mod Only
+pub mod DefinedWords
+pub mod Depends

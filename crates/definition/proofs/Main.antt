@@ -5,20 +5,21 @@ use mathlib.Core.Logic.{_⊎_}
 use mathlib.Core.List.{[], _∷_, _++_, map}
 use Prim.Native.Nat.{ℕ, _≤_, _<_}
 use lib.ListN.{length}
-use Rattle.definition.specs.Letters.{hamza, alefHamzaAbove, alef, beh, waw, yeh}
+use Rattle.definition.specs.Letters.{hamza, alefHamzaAbove, alef, beh, jeem, lam, heh, waw, yeh}
 use Rattle.definition.specs.Words.{Word, every, beginsWith, endsWith}
 use Rattle.definition.specs.Tables.{Table, «A_0», «A_1», «A_2», «A_21»}
 use Rattle.definition.specs.Search.{rowAt, longest}
 use Rattle.definition.specs.Tries.{done, after, again}
-use Rattle.definition.specs.Kind.{Kind}
+use Rattle.definition.specs.Kind.{Kind, OPEN, DEFINED, kind}
 use Rattle.definition.specs.Normal.{normal, normalise}
 use Rattle.definition.specs.Endings.{SuffixStep, Cutting, cut, endings, suffixAllAlefMaqsura, allEndings, maqsuraIfFailed}
 use Rattle.definition.specs.Finish.{last, other, finish}
-use Rattle.definition.specs.Stem.{cutting, stem}
+use Rattle.definition.specs.Stem.{cutting, stemOf, stem, chain, back}
 use Rattle.definition.specs.Demand3.{NoKey, NoHamza, AllOf, Demand3}
 use Rattle.definition.specs.Facts.{Longest, distinct, allTables, plainLetter, noPlainKey, replaced, Idle, AllCuts, NotNoonAlef, cutWord}
 use Rattle.definition.specs.Examples.{computed, twelve, work, examples, samples, normalised, normalSamples}
 use Rattle.definition.specs.Listed.{EveryClassListed}
+use Rattle.definition.specs.Depends.{SameWay, inLetters, inForms, OnlyDefined, fourGo, definedWords, openWords}
 use Rattle.definition.proofs.Examples.{examples-right}
 use Rattle.definition.proofs.Finish.{finish-joined, finish-all}
 use Rattle.definition.proofs.Listed.{every-class-listed}
@@ -30,6 +31,8 @@ use Rattle.definition.proofs.Plain.{normalise-plain}
 use Rattle.definition.proofs.Twice.{normalise-joined, normalise-twice, finish-free, finish-stays, finish-twice, finish-apart, finish-with-none}
 use Rattle.definition.proofs.Again.{again-ends}
 use Rattle.definition.proofs.NoonAlef.{no-noon-alef}
+use Rattle.definition.proofs.DefinedWords.{four-go, only-defined}
+use Rattle.definition.proofs.Depends.{stem-of, same-way}
 use Rattle.definition.proofs.Only.{demand3-only, no-cuts}
 use Rattle.definition.proofs.Demand3.{demand3}
 
@@ -114,6 +117,39 @@ main-again = again-ends
 -- the row 0646 0627 of the verb's Step2a cuts in no word
 pub main-noon-alef : (k : Kind) (n : Word) → AllCuts NotNoonAlef (cutting k n .cuts)
 main-noon-alef = no-noon-alef
+
+-- ---- what a stem depends on
+
+-- items 3 to 5 read the normalised word and the kind alone: two words that have both in common go the same way to the same stem
+pub main-stem-of : (w : Word) → stem w ≡ stemOf (kind w) (normalise w)
+main-stem-of = stem-of
+
+pub main-depends : (u w : Word) → normalise u ≡ normalise w → kind u ≡ kind w → SameWay u w
+main-depends = same-way
+
+-- the kind is needed: document 01's fifth and sixth words are one normalised word of two kinds, with two stems
+pub main-kind-needed : (normalise inForms ≡ normalise inLetters) × (kind inLetters ≡ DEFINED) × (kind inForms ≡ OPEN) × (stem inLetters ≡ waw ∷ jeem ∷ heh ∷ []) × (stem inForms ≡ alef ∷ lam ∷ waw ∷ jeem ∷ [])
+main-kind-needed = examples-right .7
+
+-- a defined word loses at most four letters behind, and fourGo loses four
+pub main-four : (w : Word) → kind w ≡ DEFINED → length (back w) ≤ 4
+main-four = four-go
+
+pub main-four-go : (kind fourGo ≡ DEFINED) × (length (back fourGo) ≡ 4)
+main-four-go = examples-right .6
+
+-- a cut by the noun's Step1b, Step2b or Step2c1, or by the row 064A of its Step2a, is in a defined word
+pub main-only-defined : (w : Word) → AllCuts (λ (s : SuffixStep) (r : ℕ). OnlyDefined s r → kind w ≡ DEFINED) (chain w)
+main-only-defined = only-defined
+
+-- defined words in which each of these cuts is made, and open words in which the verb makes another in its place
+pub main-defined-words : map work definedWords ≡ definedWords
+main-defined-words = examples-right .4
+
+pub main-open-words : map work openWords ≡ openWords
+main-open-words = examples-right .5
+
+-- ---- finishing
 
 -- item 5: the last letter changes as a last letter, and each before it as another
 pub main-finish : (w : Word) (c : ℕ) → finish (w ++ (c ∷ [])) ≡ map other w ++ (last c ∷ [])

@@ -2,7 +2,7 @@
 use mathlib.Core.Path.{_≡_, refl, sym, subst}
 use mathlib.Core.Bool.{true}
 use mathlib.Core.List.{[], _∷_}
-use mathlib.Core.Option.{Option, none, some}
+use mathlib.Core.Option.{some}
 use Prim.Native.Nat.{ℕ, _<_}
 use native.Mathlib.Omega.{arith}
 use lib.ListN.{length}
@@ -11,31 +11,22 @@ use Rattle.definition.specs.Words.{Word, same, endsWith}
 use Rattle.definition.specs.Tables.{«A_17», «A_18»}
 use Rattle.definition.specs.Search.{longer, longest, taken}
 use Rattle.definition.specs.Tries.{Try, nothing, _thenTry_, firstOf, again}
-use Rattle.definition.specs.Kind.{Kind, ifOpen}
-use Rattle.definition.specs.Endings.{SuffixStep, verbStep1, verbStep2a, verbStep2b, verbStep2c, nounStep1b, nounStep2a, nounStep2b, nounStep2c1, nounStep2c2, nounStep3, suffix, Cutting, cutOff, cutBy, cut, afterVerbStep1, verb, noun, endings, uncut}
+use Rattle.definition.specs.Kind.{Kind}
+use Rattle.definition.specs.Endings.{SuffixStep, verbStep1, verbStep2a, verbStep2b, verbStep2c, nounStep1b, nounStep2a, nounStep2b, nounStep2c1, nounStep2c2, nounStep3, suffix, Cutting, cutOff, cut, afterVerbStep1, verb}
 use Rattle.definition.specs.Stem.{cutting}
 use Rattle.definition.specs.Facts.{Idle, AllCuts, noonAlef, NotNoonAlef}
 use Rattle.definition.proofs.Found.{taken-some}
-use Rattle.definition.proofs.Triples.{Ends, Does, Keeps, ends-after, weaker, does-then, does-or, does-last, does-again, keeps-first, keeps-if}
-use Rattle.definition.proofs.Cutting.{Nominal, noun-keeps}
+use Rattle.definition.proofs.Triples.{Ends, Does, Keeps, weaker, does-then, does-or, does-last, does-again}
+use Rattle.definition.proofs.Cutting.{Nominal, cut-ends, cut-does, noun-keeps, endings-keep}
 use Rattle.definition.proofs.Cover.{covers, cover}
 use Rattle.definition.proofs.Again.{shorter, again-ends}
 
 abbrev Spared : Cutting → Type 0
 Spared v = AllCuts NotNoonAlef (v .cuts)
 
--- what is known where the row could be taken decides whether a cut spares it
-cut-does : (s : SuffixStep) (v : Cutting) → Spared v → ((r : ℕ) → taken (endsWith (v .text)) (suffix s) (length (v .text)) ≡ some r → NotNoonAlef s r)
-    → Ends Spared (λ (x : Cutting). (x ≡ v) × Idle s v) (cut s v)
-unfolding cut cutOff
-cut-does s v h f = go (taken (endsWith (v .text)) (suffix s) (length (v .text))) refl
-  where
-    go : (o : Option ℕ) → taken (endsWith (v .text)) (suffix s) (length (v .text)) ≡ o → Ends Spared (λ (x : Cutting). (x ≡ v) × Idle s v) (cutBy s v o)
-    go none e = (refl, e)
-    go (some r) e = (f r e, h)
-
 cut-spares : (s : SuffixStep) → ((r : ℕ) → NotNoonAlef s r) → Keeps Spared (cut s)
-cut-spares s f v h = weaker Spared (λ (x : Cutting). (x ≡ v) × Idle s v) Spared Spared (λ x p. p) (λ x p. subst Spared (sym (p .0)) h) (cut s v) (cut-does s v h (λ r e. f r))
+unfolding cutOff
+cut-spares s f = cut-does Spared Spared s (λ v r e h. (f r, h))
 
 -- ---- Step2a where Step1 takes no row
 covered : covers (suffix verbStep1) (noon ∷ alef ∷ []) 5 ≡ true
@@ -52,19 +43,22 @@ abbrev Ready : Cutting → Type 0
 Ready v = Spared v × Idle verbStep1 v
 
 step2a-does : Does Ready Spared Ready (cut verbStep2a)
-step2a-does v h =
-    weaker Spared (λ (x : Cutting). (x ≡ v) × Idle verbStep2a v) Spared Ready (λ x p. p) (λ x p. subst Ready (sym (p .0)) h) (cut verbStep2a v)
-    (cut-does verbStep2a v (h .0) (not-taken v (h .1)))
+unfolding cutOff
+step2a-does = cut-does Ready Spared verbStep2a (λ v r e h. (not-taken v (h .1) r e, h .0))
+
+step2b-does : Does Ready Spared Ready (cut verbStep2b)
+unfolding cutOff
+step2b-does = cut-does Ready Spared verbStep2b (λ v r e h. (tt, h .0))
 
 -- ---- the verb
-step1-does : (w : Cutting) → Does (λ (v : Cutting). (v ≡ w) × Spared w) (λ (x : Cutting). Spared x × (length (x .text) < length (w .text))) (λ (x : Cutting). Ready x) (cut verbStep1)
-unfolding cut cutOff
-step1-does w v h = subst (λ (u : Cutting). Ends (λ (x : Cutting). Spared x × (length (x .text) < length (w .text))) Ready (cut verbStep1 u)) (sym (h .0)) (go (taken (endsWith (w .text)) (suffix verbStep1) (length (w .text))) refl)
-  where
-    go : (o : Option ℕ) → taken (endsWith (w .text)) (suffix verbStep1) (length (w .text)) ≡ o
-        → Ends (λ (x : Cutting). Spared x × (length (x .text) < length (w .text))) Ready (cutBy verbStep1 w o)
-    go none e = (h .1, e)
-    go (some r) e = ((tt, h .1), shorter verbStep1 w r e)
+abbrev Shorter : Cutting → Cutting → Type 0
+Shorter w x = Spared x × (length (x .text) < length (w .text))
+
+step1-ends : (w : Cutting) → Spared w → Ends (Shorter w) Ready (cut verbStep1 w)
+unfolding cutOff
+step1-ends w h =
+    weaker (Shorter w) (λ (x : Cutting). (x ≡ w) × Idle verbStep1 w) (Shorter w) Ready (λ x p. p) (λ x p. subst Ready (sym (p .0)) (h, p .1)) (cut verbStep1 w)
+    (cut-ends verbStep1 w (Shorter w) (λ r e. ((tt, h), shorter verbStep1 w r e)))
 
 again-does : (n : ℕ) → Does (λ (v : Cutting). Spared v × (length (v .text) < n)) Ready Ready (again n (cut verbStep1))
 again-does n v h =
@@ -77,34 +71,33 @@ unfolding verb
 verb-spares w h =
     does-or Start Spared Spared Ready _ (cut verbStep2b ∷ cut verbStep2a ∷ [])
     (does-then Start Spared Ready Ready (cut verbStep1 thenTry again (length (w .text)) (cut verbStep1)) (firstOf afterVerbStep1)
-    (does-then Start Ready Ready (λ (v : Cutting). Spared v × (length (v .text) < length (w .text))) (cut verbStep1) (again (length (w .text)) (cut verbStep1))
-    (step1-does w) (again-does (length (w .text))))
+    (does-then Start Ready Ready (Shorter w) (cut verbStep1) (again (length (w .text)) (cut verbStep1))
+    (λ v q. subst (λ (u : Cutting). Ends (Shorter w) Ready (cut verbStep1 u)) (sym q) (step1-ends w h)) (again-does (length (w .text))))
     (does-or Ready Spared Ready Ready _ _ step2a-does
     (does-or Ready Spared Ready Spared (cut verbStep2c) (nothing ∷ []) (λ v r. cut-spares verbStep2c (λ i. tt) v (r .0)) (does-or Spared Spared Ready Never nothing [] (λ v q. q) (λ v z. absurd z)))))
     (does-or Ready Spared Spared Ready (cut verbStep2b) (cut verbStep2a ∷ [])
-    (λ v r. weaker Spared (λ (x : Cutting). (x ≡ v) × Idle verbStep2b v) Spared Ready (λ x p. p) (λ x p. subst Ready (sym (p .0)) r) (cut verbStep2b v) (cut-does verbStep2b v (r .0) (λ i e. tt)))
+    step2b-does
     (does-or Ready Spared Spared Ready (cut verbStep2a) [] step2a-does (λ v r. does-last Spared Spared v (r .0))))
-    w (refl, h)
+    w refl
   where
     Start : Cutting → Type 0
-    Start v = (v ≡ w) × Spared w
+    Start v = v ≡ w
 
     Never : Cutting → Type 0
     Never v = ⊥
 
 pub no-noon-alef : (k : Kind) (n : Word) → AllCuts NotNoonAlef (cutting k n .cuts)
-unfolding cutting endings
-no-noon-alef k n = ends-after Spared (endings k n)
-    (keeps-first Spared (ifOpen k verb ∷ noun k ∷ []) (keeps-if Spared k verb verb-spares, (noun-keeps Spared noun-cuts k, tt)) (uncut n) tt)
+unfolding cutting
+no-noon-alef k n = endings-keep Spared k n verb-spares (noun-keeps Spared noun-cuts k) tt
   where
     noun-cuts : (s : SuffixStep) → Nominal s → Keeps Spared (cut s)
-    noun-cuts verbStep1 z = absurd z
-    noun-cuts verbStep2a z = absurd z
-    noun-cuts verbStep2b z = absurd z
-    noun-cuts verbStep2c z = absurd z
-    noun-cuts nounStep1b t = cut-spares nounStep1b (λ r. tt)
-    noun-cuts nounStep2a t = cut-spares nounStep2a (λ r. tt)
-    noun-cuts nounStep2b t = cut-spares nounStep2b (λ r. tt)
-    noun-cuts nounStep2c1 t = cut-spares nounStep2c1 (λ r. tt)
-    noun-cuts nounStep2c2 t = cut-spares nounStep2c2 (λ r. tt)
-    noun-cuts nounStep3 t = cut-spares nounStep3 (λ r. tt)
+    noun-cuts verbStep1 z = absurd (z tt)
+    noun-cuts verbStep2a z = absurd (z tt)
+    noun-cuts verbStep2b z = absurd (z tt)
+    noun-cuts verbStep2c z = absurd (z tt)
+    noun-cuts nounStep1b z = cut-spares nounStep1b (λ r. tt)
+    noun-cuts nounStep2a z = cut-spares nounStep2a (λ r. tt)
+    noun-cuts nounStep2b z = cut-spares nounStep2b (λ r. tt)
+    noun-cuts nounStep2c1 z = cut-spares nounStep2c1 (λ r. tt)
+    noun-cuts nounStep2c2 z = cut-spares nounStep2c2 (λ r. tt)
+    noun-cuts nounStep3 z = cut-spares nounStep3 (λ r. tt)

@@ -10,11 +10,12 @@ use Rattle.definition.specs.Words.{pick, every, endsWith}
 use Rattle.definition.specs.Tables.{Row}
 use Rattle.definition.specs.Search.{Rule, rowAt, leastLetters, taken}
 use Rattle.definition.specs.Tries.{Step, Try, done, failed, nothing, _thenTry_, firstOf, again}
-use Rattle.definition.specs.Endings.{SuffixStep, verbStep1, verbStep2a, verbStep2b, verbStep2c, suffix, Cutting, cutBy, cut, afterVerbStep1, verb}
+use Rattle.definition.specs.Endings.{SuffixStep, verbStep1, verbStep2a, verbStep2b, verbStep2c, suffix, Cutting, cut, afterVerbStep1, verb}
 use Rattle.definition.specs.Facts.{Idle}
 use Rattle.definition.proofs.Match.{by}
 use Rattle.definition.proofs.Found.{taken-some, all-at}
 use Rattle.definition.proofs.Triples.{Ends, Does, weaker, does-then, does-or, does-last, does-again}
+use Rattle.definition.proofs.Cutting.{cut-ends}
 use Rattle.definition.proofs.Cover.{covers, cover}
 
 -- ---- each row of a rule is taken by the verb's Step1 or by its Step2a
@@ -60,12 +61,7 @@ module _ (w : Cutting) where
 
   -- where a cut of w fails, w stays, and the step takes no row
   cut-here : (s : SuffixStep) → Does Here Any (λ (v : Cutting). (v ≡ w) × Idle s w) (cut s)
-  unfolding cut
-  cut-here s v q = go (taken (endsWith (v .text)) (suffix s) (length (v .text))) refl
-    where
-      go : (o : Option ℕ) → taken (endsWith (v .text)) (suffix s) (length (v .text)) ≡ o → Ends Any (λ (x : Cutting). (x ≡ w) × Idle s w) (cutBy s v o)
-      go none e = (q, subst (Idle s) q e)
-      go (some r) e = tt
+  cut-here s v q = subst (λ (u : Cutting). Ends Any (λ (x : Cutting). (x ≡ w) × Idle s w) (cut s u)) (sym q) (cut-ends s w Any (λ r e. tt))
 
   abbrev One : Cutting → Type 0
   One v = (v ≡ w) × Idle verbStep1 w
@@ -97,6 +93,9 @@ module _ (w : Cutting) where
 
   pub verb-failed : (v : Cutting) → verb w ≡ failed v → v ≡ w
   verb-failed v e = untaken v e .same
+
+  pub verb-idle : (v : Cutting) → verb w ≡ failed v → Idle verbStep2a w
+  verb-idle v e = untaken v e .two
 
   module _ (s : Rule) (c : coveredByVerb s ≡ true) where
     pub none-by-verb : (v : Cutting) → verb w ≡ failed v → taken (endsWith (w .text)) s (length (w .text)) ≡ none

@@ -14,3 +14,4 @@ pub mod Listed
 pub mod Examples
 pub mod Demand3
 pub mod Facts
+pub mod Depends

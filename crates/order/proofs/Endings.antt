@@ -5,12 +5,12 @@ use mathlib.Core.Logic.{_⊎_, inl, inr}
 use mathlib.Core.List.{List, [], _∷_}
 use lib.ListN.{length}
 use Rattle.definition.specs.Words.{Word, same, endsWith}
-use Rattle.definition.specs.Tables.{«A_11», «A_12», «A_13», «A_17», «A_18», «A_19», «A_20»}
-use Rattle.definition.specs.Search.{longer, longest}
+use Rattle.definition.specs.Tables.{«A_12», «A_13», «A_17», «A_18», «A_19», «A_20»}
 use Rattle.definition.specs.Tries.{Step, Try, done, failed, nothing, andThen, ifFailed, _thenTry_, inTurn, firstOf}
 use Rattle.definition.specs.Kind.{Kind, OPEN, DEFINED, ifOpen}
 use Rattle.definition.specs.Endings.{SuffixStep, verbStep1, verbStep2a, verbStep2b, verbStep2c, nounStep1b, nounStep2a, nounStep2b, nounStep2c1, nounStep2c2, nounStep3, suffix, Cutting, uncut, cut, afterVerbStep1, verbStep1InTurn, verbChoices, verb, nounStep1bInTurn, nounByStep1b, nounChoices, nounInTurn, maqsura, allEndingChoices}
-use Rattle.definition.proofs.Verb.{coveredByVerb, verb-failed, none-by-verb}
+use Rattle.definition.proofs.Verb.{verb-failed, none-by-verb}
+use Rattle.definition.proofs.DefinedWords.{covered-1b}
 use Rattle.order.specs.Order.{pair, verbs, verbSequel, nouns, step1bSequel, unexchanged, exchanged, ordered, verbBy, nounBy, endingsBy}
 use Rattle.order.proofs.Exchange.{Fails, Clean, behind, one-fails, exchange, last-succeeds, or-succeeds, again-succeeds, then-fails, then-clean, open-clean, open-fails}
 use Rattle.order.proofs.Apart.{apart, cut-idle, cut-clean, one-idle}
@@ -82,11 +82,8 @@ step1bSequel-0 k n = λ i. firstOf (allEndingChoices k (verbBy unexchanged) (inT
     (inTurn (nounStep1bInTurn (cuts-exchange nounStep2a nounStep2b apart-2a-2b (cut nounStep2c1 ∷ []) i)))))))) (uncut n)
 
 -- ---- where the verb has failed, Step1b takes no row
-covered-1b : coveredByVerb (suffix nounStep1b) ≡ true
-unfolding suffix «A_11» «A_17» «A_18» endsWith same longest longer
-covered-1b = refl
 
--- the noun of an open word at which Step1b takes no row
+-- the noun of an open word at which it takes none
 open-noun : (v : Cutting) → Fails (cut nounStep1b) v → nounBy (pair nouns 1) OPEN v ≡ nounBy unexchanged OPEN v
 unfolding nounBy ordered exchanged _thenTry_
 open-noun v p = ap (λ (t : Try Cutting). andThen t (cut nounStep3))

@@ -83,7 +83,7 @@ module _ (f : Word → Word) (word : List ℕ) (e : checked word ≡ Accepted) w
   fitted : (room : ℕ) → answer f word room ≡ fitting size room
   fitted room = sym (after f word room Accepted e)
 
-  done : (room : ℕ) → size ≤ room → answer f word room ≡ Done size
+  pub done : (room : ℕ) → size ≤ room → answer f word room ≡ Done size
   done room h = fitted room ∙ fits size room h
 
   module _ (old : List ℕ) (h : size ≤ length old) where
@@ -91,7 +91,7 @@ module _ (f : Word → Word) (word : List ℕ) (e : checked word ≡ Accepted) w
     unfolding outAfter
     out-done = rw (done (length old) h) refl
 
-    written-done : written f word old ≡ bytesOf f word
+    pub written-done : written f word old ≡ bytesOf f word
     unfolding outAfter
     written-done = rw (done (length old) h) (take-at (bytesOf f word) (drop size old) size refl)
 

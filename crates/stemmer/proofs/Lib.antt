@@ -2,3 +2,4 @@
 pub mod Main
 pub mod Answers
 pub mod Blocks
+pub mod Depends

@@ -1,4 +1,4 @@
--- What index builders may rely on, in terms of what the entries answer: the laws of normalising and finishing, each closed by the file that proves it. Assumes nothing.
+-- What index builders may rely on, in terms of what the entries answer: the laws of normalising and finishing, and what a stem depends on, each closed by the file that proves it. Assumes nothing.
 use mathlib.Core.Path.{_≡_, refl}
 use mathlib.Core.Bool.{true}
 use mathlib.Core.List.{List, [], _∷_, _++_, map, flatten}
@@ -13,8 +13,10 @@ use Rattle.stemmer.specs.declared.Answer.the-variants.{Done, TooLong}
 use Rattle.stemmer.specs.declared.Checked.the-variants.{Accepted}
 use Rattle.stemmer.specs.Entries.{mostBytes, enoughRoom, codeOf, bytesOf, checked, answer, outAfter}
 use Rattle.stemmer.specs.Blocks.{outOf, written, Joins, Again, ligatures, alefBlock, behBlock}
+use Rattle.stemmer.specs.Depends.{SameKept, SameStem, OneWordTwoKinds}
 use Rattle.stemmer.proofs.Answers.{front, over-long}
 use Rattle.stemmer.proofs.Blocks.{joins, blocks, anywhere, normalise-again, blocks-again, finish-keeps, finish-again, joins-bound, again-bound, short-normalised, grown, finished-apart, finish-no-joins}
+use Rattle.stemmer.proofs.Depends.{kept-stem, one-word-two-kinds}
 
 -- the output afterwards is what the contracts of the entries say
 pub main-out : (f : Word → Word) (word old : List ℕ) → outOf f word old ≡ outAfter (answer f word (length old)) (bytesOf f word) old
@@ -86,3 +88,14 @@ main-finish-apart = finished-apart
 
 pub main-finish-not-joined : Joins finish alefBlock behBlock → ⊥
 main-finish-not-joined = finish-no-joins
+
+-- ---- what an index may keep in place of the typed word
+
+-- Two words for which normalise, with room for every result, has written the same bytes, and kind has answered the same, have the same answer of the stem entries.
+-- It holds of any two strings of bytes, refused ones included.
+pub main-depends : (u v old old′ : List ℕ) → SameKept u v old old′ → SameStem u v
+main-depends = kept-stem
+
+-- without the kind it does not: document 01's fifth and sixth words
+pub main-kind-needed : (old : List ℕ) → enoughRoom ≤ length old → OneWordTwoKinds old
+main-kind-needed = one-word-two-kinds

@@ -8,12 +8,9 @@ use Rattle.snowball.specs.Stands.{Stands}
 use Rattle.arabic.specs.declared.context.Context.{Context}
 use Rattle.arabic.specs.Kinds.{flags, kindByVerb, kindOf}
 use Rattle.arabic.proofs.Standing.{spelt}
+use Rattle.arabic.proofs.Checking.{kind-back}
 use Rattle.arabic.proofs.stem.stem.Statement.{statement}
 use Rattle.arabic.proofs.stem.stem.Tie as tie
-
-kind-back : (k : Kind) → kindOf (flags k .defined) ≡ k
-kind-back OPEN = refl
-kind-back DEFINED = refl
 
 one-kind : (k : Kind) → kindByVerb (flags k .verb) ≡ kindOf (flags k .defined)
 one-kind OPEN = refl

@@ -1,0 +1,191 @@
+-- A defined word loses at most four letters behind, and some cuts are in defined words only: in open words the verb takes what they would take. Assumes nothing.
+use mathlib.Core.Path.{_≡_, refl, sym, _∙_, subst}
+use mathlib.Core.Bool.{Bool, true}
+use mathlib.Core.List.{List, [], _∷_, reverseAux}
+use mathlib.Core.Option.{none, some}
+use Prim.Native.Nat.{ℕ, _+_, _≤_}
+use native.Mathlib.Omega.{arith}
+use lib.Dec.{leb}
+use lib.ListN.{length, length-append}
+use borrow.Author.Tests.{leb-true}
+use Rattle.definition.specs.Letters.{yeh}
+use Rattle.definition.specs.Words.{Word, every, same, endsWith}
+use Rattle.definition.specs.Tables.{Row, «A_11», «A_12», «A_13», «A_14», «A_15», «A_16», «A_17», «A_18»}
+use Rattle.definition.specs.Search.{rowAt, longer, longest, taken}
+use Rattle.definition.specs.Tries.{Step, Try, done, failed, after, nothing, ifFailed, firstOf}
+use Rattle.definition.specs.Kind.{Kind, OPEN, DEFINED, ifOpen, kind}
+use Rattle.definition.specs.Normal.{normalise}
+use Rattle.definition.specs.Endings.{SuffixStep, verbStep1, verbStep2a, verbStep2b, verbStep2c, nounStep1b, nounStep2a, nounStep2b, nounStep2c1, nounStep2c2, nounStep3, suffix, Cut, Cutting, ending, joined, uncut, cutOff, cut, afterNounStep1b, nounByStep1b, verb, noun, endings}
+use Rattle.definition.specs.Stem.{cutting, cuts, chain, back}
+use Rattle.definition.specs.Facts.{Idle, AllCuts}
+use Rattle.definition.specs.Depends.{yehRow, OnlyDefined}
+use Rattle.definition.proofs.Found.{taken-some, all-at}
+use Rattle.definition.proofs.Triples.{Ends, Does, Keeps, ends-after, weaker, does-then, does-or, does-last}
+use Rattle.definition.proofs.Cutting.{Verbal, cut-ends, cut-does, verb-keeps}
+use Rattle.definition.proofs.Cover.{covers, cover}
+use Rattle.definition.proofs.Verb.{coveredByVerb, verb-failed, verb-idle, none-by-verb}
+
+-- ---- how many letters go behind
+
+-- at most l letters are cut
+abbrev Lost : ℕ → Cutting → Type 0
+Lost l v = length (joined (v .cuts)) ≤ l
+
+-- the row has at most m letters
+abbrev within : ℕ → Row → Bool
+within m k = leb (length (k .letters)) m
+
+-- a step whose rows have at most m letters: of l letters cut before it, at most d are cut where it cuts, and at most f where it fails
+cut-lost : (l d f m : ℕ) (s : SuffixStep) → every (within m) (suffix s .table) ≡ true → l + m ≤ d → l ≤ f → Does (Lost l) (Lost d) (Lost f) (cut s)
+unfolding cutOff ending joined
+cut-lost l d f m s rows hd hf v p =
+    weaker (Lost d) (Lost l) (Lost d) (Lost f) (λ x q. q) (λ x q. omega (arith, q)) (cut s v)
+    (cut-does (Lost l) (Lost d) s cut-more v p)
+  where
+    cut-more : (u : Cutting) (r : ℕ) → taken (endsWith (u .text)) (suffix s) (length (u .text)) ≡ some r → Lost l u → Lost d (cutOff u (record { step = s; row = r }))
+    cut-more u r e h =
+        let key : Word = rowAt (suffix s .table) r .letters in
+        let t = leb-true (length key) m (all-at (within m) (suffix s .table) rows r (taken-some (endsWith (u .text)) (suffix s) (length (u .text)) r e .inside)) in
+        omega (arith, length-append key (joined (u .cuts)))
+
+-- one more alternative that is such a step
+or-lost : (l d f m : ℕ) (s : SuffixStep) (fs : List (Step Cutting)) → every (within m) (suffix s .table) ≡ true → l + m ≤ d
+    → Does (Lost l) (Lost d) (Lost f) (firstOf fs) → Does (Lost l) (Lost d) (Lost f) (firstOf (cut s ∷ fs))
+or-lost l d f m s fs rows hd = does-or (Lost l) (Lost d) (Lost f) (Lost l) (cut s) fs (cut-lost l d l m s rows hd (omega arith))
+
+-- Step1b takes a letter, and its sequel two at most
+step1b-lost : Does (Lost 0) (Lost 3) (Lost 1) nounByStep1b
+unfolding suffix «A_11» «A_12» «A_13» «A_14»
+step1b-lost = does-then (Lost 0) (Lost 3) (Lost 1) (Lost 1) (cut nounStep1b) (firstOf afterNounStep1b) (cut-lost 0 1 1 1 nounStep1b refl (omega arith) (omega arith))
+    (or-lost 1 3 1 1 nounStep2a _ refl (omega arith)
+    (or-lost 1 3 1 2 nounStep2b _ refl (omega arith)
+    (or-lost 1 3 1 1 nounStep2c1 [] refl (omega arith)
+    (does-last (Lost 1) (Lost 3)))))
+
+-- where they, or Step1b and another Step2b, have taken three, Step3 takes the fourth
+noun-lost : Does (Lost 0) (Lost 4) (Lost 4) (noun DEFINED)
+unfolding noun suffix «A_13» «A_15» «A_16»
+noun-lost = does-then (Lost 0) (Lost 4) (Lost 4) (Lost 3) _ (cut nounStep3)
+    (or-lost 0 3 4 1 nounStep2c2 _ refl (omega arith)
+    (does-or (Lost 0) (Lost 3) (Lost 4) (Lost 1) nounByStep1b _ step1b-lost
+    (does-or (Lost 1) (Lost 3) (Lost 4) (Lost 1) (ifOpen DEFINED (cut nounStep2a)) _ (λ v h. h)
+    (or-lost 1 3 4 2 nounStep2b _ refl (omega arith)
+    (does-or (Lost 1) (Lost 3) (Lost 4) (Lost 4) nothing [] (λ v h. omega (arith, h)) (does-last (Lost 4) (Lost 3)))))))
+    (cut-lost 3 4 4 1 nounStep3 refl (omega arith) (omega arith))
+
+defined-lost : (n : Word) → Lost 4 (cutting DEFINED n)
+unfolding cutting endings joined
+defined-lost n = ends-after (Lost 4) (endings DEFINED n)
+    (does-or (Lost 0) (Lost 4) (Lost 4) (Lost 0) (ifOpen DEFINED verb) (noun DEFINED ∷ []) (λ v h. h)
+    (does-or (Lost 0) (Lost 4) (Lost 4) (Lost 4) (noun DEFINED) [] noun-lost (does-last (Lost 4) (Lost 4)))
+    (uncut n) (omega arith))
+
+pub four-go : (w : Word) → kind w ≡ DEFINED → length (back w) ≤ 4
+unfolding back cuts
+four-go w e = subst (λ (k : Kind). length (joined (cutting k (normalise w) .cuts)) ≤ 4) (sym e) (defined-lost (normalise w))
+
+-- ---- which cuts an open word has
+abbrev Elsewhere : SuffixStep → ℕ → Type 0
+Elsewhere s r = OnlyDefined s r → ⊥
+
+abbrev Free : Cutting → Type 0
+Free v = AllCuts Elsewhere (v .cuts)
+
+cut-free : (s : SuffixStep) → ((r : ℕ) → Elsewhere s r) → Keeps Free (cut s)
+unfolding cutOff
+cut-free s f = cut-does Free Free s (λ v r e h. (f r, h))
+
+-- the verb has no such cut
+verb-cuts : (s : SuffixStep) → Verbal s → Keeps Free (cut s)
+verb-cuts verbStep1 t = cut-free verbStep1 (λ r z. z)
+verb-cuts verbStep2a t = cut-free verbStep2a (λ r z. z)
+verb-cuts verbStep2b t = cut-free verbStep2b (λ r z. z)
+verb-cuts verbStep2c t = cut-free verbStep2c (λ r z. z)
+verb-cuts nounStep1b z = absurd z
+verb-cuts nounStep2a z = absurd z
+verb-cuts nounStep2b z = absurd z
+verb-cuts nounStep2c1 z = absurd z
+verb-cuts nounStep2c2 z = absurd z
+verb-cuts nounStep3 z = absurd z
+
+-- ---- where the verb has failed
+pub covered-1b : coveredByVerb (suffix nounStep1b) ≡ true
+unfolding suffix «A_11» «A_17» «A_18» endsWith same longest longer
+covered-1b = refl
+
+covered-2b : coveredByVerb (suffix nounStep2b) ≡ true
+unfolding suffix «A_13» «A_17» «A_18» endsWith same longest longer
+covered-2b = refl
+
+covered-yeh : covers (suffix verbStep2a) (yeh ∷ []) 5 ≡ true
+unfolding suffix «A_18» endsWith same longest longer
+covered-yeh = refl
+
+module _ (w : Cutting) (b : Free w) (v : Cutting) (e : verb w ≡ failed v) where
+  abbrev Here : Cutting → Type 0
+  Here x = x ≡ w
+
+  abbrev Never : Cutting → Type 0
+  Never x = ⊥
+
+  -- a step at w, by what it takes there
+  at-w : (Q : Cutting → Type 0) (s : SuffixStep) → ((r : ℕ) → taken (endsWith (w .text)) (suffix s) (length (w .text)) ≡ some r → Q (cutOff w (record { step = s; row = r })))
+      → Does Here Q Here (cut s)
+  at-w Q s f x q = subst (λ (u : Cutting). Ends Q Here (cut s u)) (sym q)
+      (weaker Q (λ (y : Cutting). (y ≡ w) × Idle s w) Q Here (λ y p. p) (λ y p. p .0) (cut s w) (cut-ends s w Q f))
+
+  idle-at-w : (s : SuffixStep) → coveredByVerb (suffix s) ≡ true → Does Here Never Here (cut s)
+  idle-at-w s c = at-w Never s (λ r p. let q : none ≡ some r = sym (none-by-verb w (suffix s) c v e) ∙ p in let z : _≡_ {A = ℕ} 0 1 = cc in omega arith)
+
+  not-yeh : (r : ℕ) → taken (endsWith (w .text)) (suffix nounStep2a) (length (w .text)) ≡ some r → r ≡ yehRow → ⊥
+  unfolding suffix «A_12»
+  not-yeh r p q =
+      let tk = taken-some (endsWith (w .text)) (suffix nounStep2a) (length (w .text)) yehRow (subst (λ (i : ℕ). taken (endsWith (w .text)) (suffix nounStep2a) (length (w .text)) ≡ some i) q p) in
+      cover (suffix verbStep2a) (w .text) (yeh ∷ []) 5 (length (w .text)) covered-yeh (tk .matches) (tk .enough) (verb-idle w v e)
+
+  noun-free : Does Here Free Free (noun OPEN)
+  unfolding noun cutOff
+  noun-free = does-then Here Free Free Free _ (cut nounStep3)
+      (does-or Here Free Free Here (cut nounStep2c2) _ (at-w Free nounStep2c2 (λ r p. ((λ z. z), b)))
+      (does-or Here Free Free Here nounByStep1b _
+      (does-then Here Free Here Never (cut nounStep1b) (firstOf afterNounStep1b) (idle-at-w nounStep1b covered-1b) (λ x z. absurd z))
+      (does-or Here Free Free Here (ifOpen OPEN (cut nounStep2a)) _ (at-w Free nounStep2a (λ r p. (not-yeh r p, b)))
+      (does-or Here Free Free Here (cut nounStep2b) _
+      (λ x q. weaker Never Here Free Here (λ y z. absurd z) (λ y p. p) (cut nounStep2b x) (idle-at-w nounStep2b covered-2b x q))
+      (does-or Here Free Free Never nothing [] (λ x q. subst Free (sym q) b) (λ x z. absurd z))))))
+      (cut-free nounStep3 (λ r z. z))
+
+-- ---- open words
+open-free : (n : Word) → Free (cutting OPEN n)
+unfolding cutting endings firstOf
+open-free n = go (verb w) refl
+  where
+    w : Cutting
+    w = uncut n
+
+    go : (t : Try Cutting) → verb w ≡ t → Free (after (ifFailed t (firstOf (noun OPEN ∷ []))))
+    go (done v) e = subst (Ends Free Free) e (verb-keeps Free verb-cuts w tt)
+    go (failed v) e = subst (λ (x : Cutting). Free (after (firstOf (noun OPEN ∷ []) x))) (sym (verb-failed w v e))
+        (ends-after Free (firstOf (noun OPEN ∷ []) w) (does-or (λ (x : Cutting). x ≡ w) Free Free Free (noun OPEN) [] (noun-free w tt v e) (does-last Free Free) w refl))
+
+-- ---- of every word
+module _ (P : SuffixStep → ℕ → Type 0) where
+  turned : (cs ds : List Cut) → AllCuts P cs → AllCuts P ds → AllCuts P (reverseAux cs ds)
+  turned [] ds h g = g
+  turned (c ∷ cs) ds h g = turned cs (c ∷ ds) (h .1) (h .0, g)
+
+  every-cut : ((s : SuffixStep) (r : ℕ) → P s r) → (cs : List Cut) → AllCuts P cs
+  every-cut f [] = tt
+  every-cut f (c ∷ cs) = (f (c .step) (c .row), every-cut f cs)
+
+weaker-cuts : (P Q : SuffixStep → ℕ → Type 0) → ((s : SuffixStep) (r : ℕ) → P s r → Q s r) → (cs : List Cut) → AllCuts P cs → AllCuts Q cs
+weaker-cuts P Q f [] h = tt
+weaker-cuts P Q f (c ∷ cs) h = (f (c .step) (c .row) (h .0), weaker-cuts P Q f cs (h .1))
+
+by-kind : (k : Kind) (n : Word) → AllCuts (λ (s : SuffixStep) (r : ℕ). OnlyDefined s r → k ≡ DEFINED) (cutting k n .cuts)
+by-kind OPEN n = weaker-cuts Elsewhere (λ (s : SuffixStep) (r : ℕ). OnlyDefined s r → OPEN ≡ DEFINED) (λ s r f d. absurd (f d)) (cutting OPEN n .cuts) (open-free n)
+by-kind DEFINED n = every-cut (λ (s : SuffixStep) (r : ℕ). OnlyDefined s r → DEFINED ≡ DEFINED) (λ s r d. refl) (cutting DEFINED n .cuts)
+
+pub only-defined : (w : Word) → AllCuts (λ (s : SuffixStep) (r : ℕ). OnlyDefined s r → kind w ≡ DEFINED) (chain w)
+unfolding chain cuts
+only-defined w = turned (λ (s : SuffixStep) (r : ℕ). OnlyDefined s r → kind w ≡ DEFINED) (cutting (kind w) (normalise w) .cuts) [] (by-kind (kind w) (normalise w)) tt

@@ -1,0 +1,132 @@
+-- Two words of which an index keeps the same have the same stem. Assumes nothing.
+use mathlib.Core.Path.{_≡_, refl, sym, ap, _∙_}
+use mathlib.Core.List.{List, [], _∷_}
+use Prim.Native.Nat.{ℕ, _≤_}
+use native.Mathlib.Omega.{arith}
+use lib.ListN.{length, take}
+use Rattle.utf8.specs.Utf8.{encode1, encode, first, filled, step, onto, run}
+use Rattle.utf8.proofs.Main.{main-one}
+use Rattle.definition.specs.Letters.{alef, jeem, lam, heh, waw}
+use Rattle.definition.specs.Words.{Word}
+use Rattle.definition.specs.Kind.{Kind, OPEN, DEFINED, kind}
+use Rattle.definition.specs.Normal.{normalise}
+use Rattle.definition.specs.Stem.{stem}
+use Rattle.definition.specs.Depends.{inLetters, inForms}
+use Rattle.definition.proofs.Main.{main-depends, main-kind-needed}
+use Rattle.arabic.specs.Kinds.{flags, kindOf}
+use Rattle.arabic.proofs.Main.{main-grows}
+use Rattle.arabic.proofs.Gives.{normalise-scalars}
+use Rattle.arabic.proofs.Checking.{kind-back}
+use Rattle.stemmer.specs.declared.Answer.the-variants.{Done}
+use Rattle.stemmer.specs.declared.Checked.{Checked}
+use Rattle.stemmer.specs.declared.Checked.the-variants.{Overlong, Malformed, Accepted}
+use Rattle.stemmer.specs.Entries.{enoughRoom, countOf, letters, bytesOf, checked, fitting, answer, outAfter, kindAfter, kindAnswer}
+use Rattle.stemmer.specs.Blocks.{outOf, written}
+use Rattle.stemmer.specs.Depends.{SameKept, SameStem, fifth, sixth, OneWordTwoKinds}
+use Rattle.stemmer.proofs.Answers.{short, scalars, spelling, after, refused-overlong, refused-malformed, part-is}
+use Rattle.stemmer.proofs.Blocks.{done, written-done}
+
+-- ---- the kind entry's answer
+
+-- its code tells how the checks came out
+same-checks : (c d : Checked) (k l : Kind) → kindAfter c k .code ≡ kindAfter d l .code → c ≡ d
+same-checks Overlong Overlong k l e = refl
+same-checks Overlong Malformed k l e = absurd (omega (arith, e))
+same-checks Overlong Accepted k l e = absurd (omega (arith, e))
+same-checks Malformed Overlong k l e = absurd (omega (arith, e))
+same-checks Malformed Malformed k l e = refl
+same-checks Malformed Accepted k l e = absurd (omega (arith, e))
+same-checks Accepted Overlong k l e = absurd (omega (arith, e))
+same-checks Accepted Malformed k l e = absurd (omega (arith, e))
+same-checks Accepted Accepted k l e = refl
+
+-- and of an accepted word its flag tells the kind
+kind-told : (word : List ℕ) → checked word ≡ Accepted → kindOf (kindAnswer word .kind .defined) ≡ kind (letters word)
+unfolding kindAnswer
+kind-told word e = ap (λ (c : Checked). kindOf (kindAfter c (kind (letters word)) .kind .defined)) e ∙ kind-back (kind (letters word))
+
+-- ---- the stem entries
+module _ (u v : List ℕ) where
+  -- equal answers and outputs hand back equal parts
+  same-stem : ((room : ℕ) → answer stem u room ≡ answer stem v room) → ((old : List ℕ) → outOf stem u old ≡ outOf stem v old) → SameStem u v
+  same-stem a o = record {
+    answers = a;
+    outputs = o;
+    parts = λ old. sym (part-is stem u old) ∙ (λ i. take (countOf (a (length old) i)) (o old i)) ∙ part-is stem v old;
+  }
+
+  -- both refused, or both accepted with the same stem
+  by-checks : (c : Checked) → checked u ≡ c → checked v ≡ c → (c ≡ Accepted → bytesOf stem u ≡ bytesOf stem v) → SameStem u v
+  by-checks Overlong d e f = same-stem
+      (λ room. sym (after stem u room Overlong d) ∙ after stem v room Overlong e)
+      (λ old. sym (refused-overlong stem u old d .1 .0) ∙ refused-overlong stem v old e .1 .0)
+  by-checks Malformed d e f = same-stem
+      (λ room. sym (after stem u room Malformed d) ∙ after stem v room Malformed e)
+      (λ old. sym (refused-malformed stem u old d .1 .0) ∙ refused-malformed stem v old e .1 .0)
+  by-checks Accepted d e f = same-stem answers (λ old. (λ i. outAfter (answers (length old) i) (f refl i) old))
+    where
+      answers : (room : ℕ) → answer stem u room ≡ answer stem v room
+      answers room = sym (after stem u room Accepted d) ∙ ap (λ (bs : List ℕ). fitting (length bs) room) (f refl) ∙ after stem v room Accepted e
+
+-- ---- what is kept
+
+-- normalise writes all that it makes of an accepted word
+all-written : (word old : List ℕ) → checked word ≡ Accepted → enoughRoom ≤ length old → written normalise word old ≡ bytesOf normalise word
+unfolding bytesOf
+all-written word old e h = written-done normalise word e old (omega (arith, main-grows (letters word), ap length (spelling word e), short word e))
+
+-- and its bytes tell its letters
+same-letters : (u v : List ℕ) → checked u ≡ Accepted → checked v ≡ Accepted → bytesOf normalise u ≡ bytesOf normalise v → normalise (letters u) ≡ normalise (letters v)
+unfolding bytesOf
+same-letters u v d e q =
+    main-one (normalise (letters u)) (normalise (letters v)) (normalise-scalars (letters u) (scalars u d)) (normalise-scalars (letters v) (scalars v e)) q
+
+pub kept-stem : (u v old old′ : List ℕ) → SameKept u v old old′ → SameStem u v
+unfolding bytesOf kindAnswer
+kept-stem u v old old′ s = by-checks u v (checked v) both refl (λ e.
+    let d : checked u ≡ Accepted = both ∙ e in
+    let q : bytesOf normalise u ≡ bytesOf normalise v = sym (all-written u old d (s .room)) ∙ s .bytes ∙ all-written v old′ e (s .room′) in
+    let k : kind (letters u) ≡ kind (letters v) = sym (kind-told u d) ∙ ap kindOf (s .kinds) ∙ kind-told v e in
+    ap encode (main-depends (letters u) (letters v) (same-letters u v d e q) k .stems))
+  where
+    both : checked u ≡ checked v
+    both = same-checks (checked u) (checked v) (kind (letters u)) (kind (letters v)) (s .codes)
+
+-- ---- the kind is needed
+
+two-words : (checked fifth ≡ Accepted) × (letters fifth ≡ inLetters) × (checked sixth ≡ Accepted) × (letters sixth ≡ inForms)
+unfolding checked letters encode encode1 run step first filled onto
+two-words = (refl, refl, refl, refl)
+
+-- an accepted word with the letters w: what f makes of it, its kind, and its stem in an output that is long enough
+module _ (word : List ℕ) (w : Word) (e : checked word ≡ Accepted) (l : letters word ≡ w) where
+  bytes-are : (f : Word → Word) → bytesOf f word ≡ encode (f w)
+  unfolding bytesOf
+  bytes-are f = ap (λ (x : Word). encode (f x)) l
+
+  kind-is : (k : Kind) → kind w ≡ k → kindAnswer word ≡ record { code = 0; kind = flags k }
+  unfolding kindAnswer
+  kind-is k q = λ i. kindAfter (e i) ((ap kind l ∙ q) i)
+
+  stem-is : (t : Word) (room : ℕ) → stem w ≡ t → length (encode t) ≤ room → answer stem word room ≡ Done (length (encode t))
+  stem-is t room q h =
+      let b : length (bytesOf stem word) ≡ length (encode t) = ap length (bytes-are stem ∙ ap encode q) in
+      done stem word e room (omega (arith, b)) ∙ ap Done b
+
+pub one-word-two-kinds : (old : List ℕ) → enoughRoom ≤ length old → OneWordTwoKinds old
+unfolding encode encode1
+one-word-two-kinds old h =
+    let e5 = two-words .0 in
+    let l5 = two-words .1 in
+    let e6 = two-words .2 in
+    let l6 = two-words .3 in
+    record {
+      bytes =
+          all-written sixth old e6 h
+          ∙ bytes-are sixth inForms e6 l6 normalise ∙ ap encode (main-kind-needed .0) ∙ sym (bytes-are fifth inLetters e5 l5 normalise)
+          ∙ sym (all-written fifth old e5 h);
+      fifthKind = kind-is fifth inLetters e5 l5 DEFINED (main-kind-needed .1);
+      sixthKind = kind-is sixth inForms e6 l6 OPEN (main-kind-needed .2);
+      fifthStem = stem-is fifth inLetters e5 l5 (waw ∷ jeem ∷ heh ∷ []) (length old) (main-kind-needed .3) (omega arith);
+      sixthStem = stem-is sixth inForms e6 l6 (alef ∷ lam ∷ waw ∷ jeem ∷ []) (length old) (main-kind-needed .4) (omega arith);
+    }
