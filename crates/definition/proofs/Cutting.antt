@@ -23,20 +23,20 @@ use Rattle.definition.proofs.Found.{Taken, taken-some, all-at}
 use Rattle.definition.proofs.Triples.{Ends, Does, Keeps, weaker, keeps-first, keeps-then, keeps-if, does-again, ends-after}
 
 -- ---- one step: it cuts the row that it takes, or fails and changes nothing
-pub cut-ends : (s : SuffixStep) (v : Cutting) (Q : Cutting → Type 0)
-    → ((r : ℕ) → taken (endsWith (v .text)) (suffix s) (length (v .text)) ≡ some r → Q (cutOff v (record { step = s; row = r })))
-    → Ends Q (λ (x : Cutting). (x ≡ v) × Idle s v) (cut s v)
+pub cut-at : (w : Cutting) (Q : Cutting → Type 0) (s : SuffixStep)
+    → ((r : ℕ) → taken (endsWith (w .text)) (suffix s) (length (w .text)) ≡ some r → Q (cutOff w (record { step = s; row = r })))
+    → Does (λ (v : Cutting). v ≡ w) Q (λ (v : Cutting). (v ≡ w) × Idle s w) (cut s)
 unfolding cut
-cut-ends s v Q f = go (taken (endsWith (v .text)) (suffix s) (length (v .text))) refl
+cut-at w Q s f v q = subst (λ (u : Cutting). Ends Q (λ (x : Cutting). (x ≡ w) × Idle s w) (cut s u)) (sym q) (go (taken (endsWith (w .text)) (suffix s) (length (w .text))) refl)
   where
-    go : (o : Option ℕ) → taken (endsWith (v .text)) (suffix s) (length (v .text)) ≡ o → Ends Q (λ (x : Cutting). (x ≡ v) × Idle s v) (cutBy s v o)
+    go : (o : Option ℕ) → taken (endsWith (w .text)) (suffix s) (length (w .text)) ≡ o → Ends Q (λ (x : Cutting). (x ≡ w) × Idle s w) (cutBy s w o)
     go none e = (refl, e)
     go (some r) e = f r e
 
 pub cut-does : (P Q : Cutting → Type 0) (s : SuffixStep)
     → ((v : Cutting) (r : ℕ) → taken (endsWith (v .text)) (suffix s) (length (v .text)) ≡ some r → P v → Q (cutOff v (record { step = s; row = r })))
     → Does P Q P (cut s)
-cut-does P Q s f v p = weaker Q (λ (x : Cutting). (x ≡ v) × Idle s v) Q P (λ x q. q) (λ x h. subst P (sym (h .0)) p) (cut s v) (cut-ends s v Q (λ r e. f v r e p))
+cut-does P Q s f v p = weaker Q (λ (x : Cutting). (x ≡ v) × Idle s v) Q P (λ x q. q) (λ x h. subst P (sym (h .0)) p) (cut s v) (cut-at v Q s (λ r e. f v r e p) v refl)
 
 -- a step of the verb, a step of the noun
 abbrev pub Verbal : SuffixStep → Type 0

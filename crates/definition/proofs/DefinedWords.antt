@@ -21,7 +21,7 @@ use Rattle.definition.specs.Facts.{Idle, AllCuts}
 use Rattle.definition.specs.Depends.{yehRow, OnlyDefined}
 use Rattle.definition.proofs.Found.{taken-some, all-at}
 use Rattle.definition.proofs.Triples.{Ends, Does, Keeps, ends-after, weaker, does-then, does-or, does-last}
-use Rattle.definition.proofs.Cutting.{Verbal, cut-ends, cut-does, verb-keeps}
+use Rattle.definition.proofs.Cutting.{Verbal, cut-at, cut-does, verb-keeps}
 use Rattle.definition.proofs.Cover.{covers, cover}
 use Rattle.definition.proofs.Verb.{coveredByVerb, verb-failed, verb-idle, none-by-verb}
 
@@ -62,7 +62,7 @@ step1b-lost = does-then (Lost 0) (Lost 3) (Lost 1) (Lost 1) (cut nounStep1b) (fi
     (or-lost 1 3 1 1 nounStep2c1 [] refl (omega arith)
     (does-last (Lost 1) (Lost 3)))))
 
--- where they, or Step1b and another Step2b, have taken three, Step3 takes the fourth
+-- where Step1b and Step2b have taken three, Step3 takes the fourth
 noun-lost : Does (Lost 0) (Lost 4) (Lost 4) (noun DEFINED)
 unfolding noun suffix «A_13» «A_15» «A_16»
 noun-lost = does-then (Lost 0) (Lost 4) (Lost 4) (Lost 3) _ (cut nounStep3)
@@ -85,22 +85,25 @@ unfolding back cuts
 four-go w e = subst (λ (k : Kind). length (joined (cutting k (normalise w) .cuts)) ≤ 4) (sym e) (defined-lost (normalise w))
 
 -- ---- which cuts an open word has
-abbrev Elsewhere : SuffixStep → ℕ → Type 0
-Elsewhere s r = OnlyDefined s r → ⊥
 
+-- the cut may be made in a word of the kind k
+abbrev Allowed : Kind → SuffixStep → ℕ → Type 0
+Allowed k s r = OnlyDefined s r → k ≡ DEFINED
+
+-- every cut so far may be made in an open word
 abbrev Free : Cutting → Type 0
-Free v = AllCuts Elsewhere (v .cuts)
+Free v = AllCuts (Allowed OPEN) (v .cuts)
 
-cut-free : (s : SuffixStep) → ((r : ℕ) → Elsewhere s r) → Keeps Free (cut s)
+cut-free : (s : SuffixStep) → ((r : ℕ) → Allowed OPEN s r) → Keeps Free (cut s)
 unfolding cutOff
 cut-free s f = cut-does Free Free s (λ v r e h. (f r, h))
 
 -- the verb has no such cut
 verb-cuts : (s : SuffixStep) → Verbal s → Keeps Free (cut s)
-verb-cuts verbStep1 t = cut-free verbStep1 (λ r z. z)
-verb-cuts verbStep2a t = cut-free verbStep2a (λ r z. z)
-verb-cuts verbStep2b t = cut-free verbStep2b (λ r z. z)
-verb-cuts verbStep2c t = cut-free verbStep2c (λ r z. z)
+verb-cuts verbStep1 t = cut-free verbStep1 (λ r z. absurd z)
+verb-cuts verbStep2a t = cut-free verbStep2a (λ r z. absurd z)
+verb-cuts verbStep2b t = cut-free verbStep2b (λ r z. absurd z)
+verb-cuts verbStep2c t = cut-free verbStep2c (λ r z. absurd z)
 verb-cuts nounStep1b z = absurd z
 verb-cuts nounStep2a z = absurd z
 verb-cuts nounStep2b z = absurd z
@@ -131,8 +134,7 @@ module _ (w : Cutting) (b : Free w) (v : Cutting) (e : verb w ≡ failed v) wher
   -- a step at w, by what it takes there
   at-w : (Q : Cutting → Type 0) (s : SuffixStep) → ((r : ℕ) → taken (endsWith (w .text)) (suffix s) (length (w .text)) ≡ some r → Q (cutOff w (record { step = s; row = r })))
       → Does Here Q Here (cut s)
-  at-w Q s f x q = subst (λ (u : Cutting). Ends Q Here (cut s u)) (sym q)
-      (weaker Q (λ (y : Cutting). (y ≡ w) × Idle s w) Q Here (λ y p. p) (λ y p. p .0) (cut s w) (cut-ends s w Q f))
+  at-w Q s f x q = weaker Q (λ (y : Cutting). (y ≡ w) × Idle s w) Q Here (λ y p. p) (λ y p. p .0) (cut s x) (cut-at w Q s f x q)
 
   idle-at-w : (s : SuffixStep) → coveredByVerb (suffix s) ≡ true → Does Here Never Here (cut s)
   idle-at-w s c = at-w Never s (λ r p. let q : none ≡ some r = sym (none-by-verb w (suffix s) c v e) ∙ p in let z : _≡_ {A = ℕ} 0 1 = cc in omega arith)
@@ -146,14 +148,14 @@ module _ (w : Cutting) (b : Free w) (v : Cutting) (e : verb w ≡ failed v) wher
   noun-free : Does Here Free Free (noun OPEN)
   unfolding noun cutOff
   noun-free = does-then Here Free Free Free _ (cut nounStep3)
-      (does-or Here Free Free Here (cut nounStep2c2) _ (at-w Free nounStep2c2 (λ r p. ((λ z. z), b)))
+      (does-or Here Free Free Here (cut nounStep2c2) _ (at-w Free nounStep2c2 (λ r p. ((λ z. absurd z), b)))
       (does-or Here Free Free Here nounByStep1b _
       (does-then Here Free Here Never (cut nounStep1b) (firstOf afterNounStep1b) (idle-at-w nounStep1b covered-1b) (λ x z. absurd z))
-      (does-or Here Free Free Here (ifOpen OPEN (cut nounStep2a)) _ (at-w Free nounStep2a (λ r p. (not-yeh r p, b)))
+      (does-or Here Free Free Here (ifOpen OPEN (cut nounStep2a)) _ (at-w Free nounStep2a (λ r p. ((λ z. absurd (not-yeh r p z)), b)))
       (does-or Here Free Free Here (cut nounStep2b) _
       (λ x q. weaker Never Here Free Here (λ y z. absurd z) (λ y p. p) (cut nounStep2b x) (idle-at-w nounStep2b covered-2b x q))
       (does-or Here Free Free Never nothing [] (λ x q. subst Free (sym q) b) (λ x z. absurd z))))))
-      (cut-free nounStep3 (λ r z. z))
+      (cut-free nounStep3 (λ r z. absurd z))
 
 -- ---- open words
 open-free : (n : Word) → Free (cutting OPEN n)
@@ -178,14 +180,10 @@ module _ (P : SuffixStep → ℕ → Type 0) where
   every-cut f [] = tt
   every-cut f (c ∷ cs) = (f (c .step) (c .row), every-cut f cs)
 
-weaker-cuts : (P Q : SuffixStep → ℕ → Type 0) → ((s : SuffixStep) (r : ℕ) → P s r → Q s r) → (cs : List Cut) → AllCuts P cs → AllCuts Q cs
-weaker-cuts P Q f [] h = tt
-weaker-cuts P Q f (c ∷ cs) h = (f (c .step) (c .row) (h .0), weaker-cuts P Q f cs (h .1))
-
-by-kind : (k : Kind) (n : Word) → AllCuts (λ (s : SuffixStep) (r : ℕ). OnlyDefined s r → k ≡ DEFINED) (cutting k n .cuts)
-by-kind OPEN n = weaker-cuts Elsewhere (λ (s : SuffixStep) (r : ℕ). OnlyDefined s r → OPEN ≡ DEFINED) (λ s r f d. absurd (f d)) (cutting OPEN n .cuts) (open-free n)
-by-kind DEFINED n = every-cut (λ (s : SuffixStep) (r : ℕ). OnlyDefined s r → DEFINED ≡ DEFINED) (λ s r d. refl) (cutting DEFINED n .cuts)
+by-kind : (k : Kind) (n : Word) → AllCuts (Allowed k) (cutting k n .cuts)
+by-kind OPEN n = open-free n
+by-kind DEFINED n = every-cut (Allowed DEFINED) (λ s r d. refl) (cutting DEFINED n .cuts)
 
 pub only-defined : (w : Word) → AllCuts (λ (s : SuffixStep) (r : ℕ). OnlyDefined s r → kind w ≡ DEFINED) (chain w)
 unfolding chain cuts
-only-defined w = turned (λ (s : SuffixStep) (r : ℕ). OnlyDefined s r → kind w ≡ DEFINED) (cutting (kind w) (normalise w) .cuts) [] (by-kind (kind w) (normalise w)) tt
+only-defined w = turned (Allowed (kind w)) (cutting (kind w) (normalise w) .cuts) [] (by-kind (kind w) (normalise w)) tt

@@ -17,7 +17,7 @@ use Rattle.definition.specs.Stem.{cutting}
 use Rattle.definition.specs.Facts.{Idle, AllCuts, noonAlef, NotNoonAlef}
 use Rattle.definition.proofs.Found.{taken-some}
 use Rattle.definition.proofs.Triples.{Ends, Does, Keeps, weaker, does-then, does-or, does-last, does-again}
-use Rattle.definition.proofs.Cutting.{Nominal, cut-ends, cut-does, noun-keeps, endings-keep}
+use Rattle.definition.proofs.Cutting.{Nominal, cut-at, cut-does, noun-keeps, endings-keep}
 use Rattle.definition.proofs.Cover.{covers, cover}
 use Rattle.definition.proofs.Again.{shorter, again-ends}
 
@@ -54,11 +54,11 @@ step2b-does = cut-does Ready Spared verbStep2b (λ v r e h. (tt, h .0))
 abbrev Shorter : Cutting → Cutting → Type 0
 Shorter w x = Spared x × (length (x .text) < length (w .text))
 
-step1-ends : (w : Cutting) → Spared w → Ends (Shorter w) Ready (cut verbStep1 w)
+step1-does : (w : Cutting) → Spared w → Does (λ (v : Cutting). v ≡ w) (Shorter w) Ready (cut verbStep1)
 unfolding cutOff
-step1-ends w h =
-    weaker (Shorter w) (λ (x : Cutting). (x ≡ w) × Idle verbStep1 w) (Shorter w) Ready (λ x p. p) (λ x p. subst Ready (sym (p .0)) (h, p .1)) (cut verbStep1 w)
-    (cut-ends verbStep1 w (Shorter w) (λ r e. ((tt, h), shorter verbStep1 w r e)))
+step1-does w h v q =
+    weaker (Shorter w) (λ (x : Cutting). (x ≡ w) × Idle verbStep1 w) (Shorter w) Ready (λ x p. p) (λ x p. subst Ready (sym (p .0)) (h, p .1)) (cut verbStep1 v)
+    (cut-at w (Shorter w) verbStep1 (λ r e. ((tt, h), shorter verbStep1 w r e)) v q)
 
 again-does : (n : ℕ) → Does (λ (v : Cutting). Spared v × (length (v .text) < n)) Ready Ready (again n (cut verbStep1))
 again-does n v h =
@@ -72,7 +72,7 @@ verb-spares w h =
     does-or Start Spared Spared Ready _ (cut verbStep2b ∷ cut verbStep2a ∷ [])
     (does-then Start Spared Ready Ready (cut verbStep1 thenTry again (length (w .text)) (cut verbStep1)) (firstOf afterVerbStep1)
     (does-then Start Ready Ready (Shorter w) (cut verbStep1) (again (length (w .text)) (cut verbStep1))
-    (λ v q. subst (λ (u : Cutting). Ends (Shorter w) Ready (cut verbStep1 u)) (sym q) (step1-ends w h)) (again-does (length (w .text))))
+    (step1-does w h) (again-does (length (w .text))))
     (does-or Ready Spared Ready Ready _ _ step2a-does
     (does-or Ready Spared Ready Spared (cut verbStep2c) (nothing ∷ []) (λ v r. cut-spares verbStep2c (λ i. tt) v (r .0)) (does-or Spared Spared Ready Never nothing [] (λ v q. q) (λ v z. absurd z)))))
     (does-or Ready Spared Spared Ready (cut verbStep2b) (cut verbStep2a ∷ [])

@@ -15,7 +15,7 @@ use Rattle.definition.specs.Facts.{Idle}
 use Rattle.definition.proofs.Match.{by}
 use Rattle.definition.proofs.Found.{taken-some, all-at}
 use Rattle.definition.proofs.Triples.{Ends, Does, weaker, does-then, does-or, does-last, does-again}
-use Rattle.definition.proofs.Cutting.{cut-ends}
+use Rattle.definition.proofs.Cutting.{cut-at}
 use Rattle.definition.proofs.Cover.{covers, cover}
 
 -- ---- each row of a rule is taken by the verb's Step1 or by its Step2a
@@ -61,7 +61,7 @@ module _ (w : Cutting) where
 
   -- where a cut of w fails, w stays, and the step takes no row
   cut-here : (s : SuffixStep) → Does Here Any (λ (v : Cutting). (v ≡ w) × Idle s w) (cut s)
-  cut-here s v q = subst (λ (u : Cutting). Ends Any (λ (x : Cutting). (x ≡ w) × Idle s w) (cut s u)) (sym q) (cut-ends s w Any (λ r e. tt))
+  cut-here s = cut-at w Any s (λ r e. tt)
 
   abbrev One : Cutting → Type 0
   One v = (v ≡ w) × Idle verbStep1 w
