@@ -205,6 +205,7 @@ fn search(seed: u64, words: u64) {
     for search in searches[pairs..].iter().filter(|s| s.shown.is_none()) {
         println!("without {}", search.line(""));
     }
+    println!("most letters cut behind: {} in open words, {} in defined words", base.behind[0], base.behind[1]);
     let shown = searches[..pairs].iter().filter(|s| s.shown.is_some()).count();
     println!("{} pairs: {} shown, {} with no word; {} words", pairs, shown, pairs - shown, total);
 }

@@ -85,12 +85,14 @@ pub struct Model {
     /// One bit a row: the rows that each step has found in this word, and those that it has taken in all open and in all defined words.
     found: [u16; STEPS.len()],
     pub taken: [[u16; STEPS.len()]; 2],
+    /// The most letters cut behind, in open and in defined words.
+    pub behind: [usize; 2],
 }
 
 impl Model {
     pub fn new(keys: &'static [u16], place: usize, first: usize, step: usize, row: usize) -> Model {
         let (found, taken) = ([0; STEPS.len()], [[0; STEPS.len()]; 2]);
-        Model { place, first, step, row, keys, letters: [0; SIZE], from: 0, to: 0, head: 0, passed: 0, defined: false, found, taken }
+        Model { place, first, step, row, keys, letters: [0; SIZE], from: 0, to: 0, head: 0, passed: 0, defined: false, found, taken, behind: [0; 2] }
     }
 
     pub fn name(&self) -> String {
@@ -214,6 +216,7 @@ impl Model {
     }
 
     fn endings(&mut self) {
+        let all = self.to;
         self.first_of(ENDS, |m, i| match i {
             0 => !m.defined && m.verb(),
             1 => m.noun(),
@@ -225,6 +228,8 @@ impl Model {
                 row.is_some()
             }
         });
+        let most = &mut self.behind[self.defined as usize];
+        *most = (all - self.to).max(*most);
     }
 
     fn fronts(&mut self) {

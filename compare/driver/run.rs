@@ -1,5 +1,5 @@
 // run SEED SECONDS WORDS PARTS LIST: compares the library with the Rust; compare/run builds and starts it.
-// SECONDS is the time limit of each part, WORDS the number of random words in each of the parts random and damaged, of which blocks has a tenth,
+// SECONDS is the time limit of each part, WORDS the number of random words in each of the parts random and damaged, of which blocks and spellings have a tenth,
 // PARTS the parts' names parted by commas, LIST a file of words or nothing.
 
 #[path = "blocks.rs"]
@@ -15,12 +15,16 @@ mod random;
 #[path = "words.rs"]
 mod words;
 
-use check::{hex, Checker, Difference};
+use check::{hex, Checker, Difference, Expected};
+use snowball::algorithms::arabic_test_copy;
 use std::io::BufRead;
 use std::time::{Duration, Instant};
 use words::Words;
 
 const CARRIERS: [&'static str; 3] = ["\u{643}\u{62A}\u{627}\u{628}", "\u{627}\u{644}\u{648}\u{62C}\u{647}\u{629}", "\u{641}\u{633}\u{64A}\u{62F}\u{631}\u{633}\u{648}\u{646}\u{647}\u{627}"];
+
+/// How often a word of the part spellings is spelt.
+const SPELLINGS: usize = 6;
 
 extern "C" {
     fn signal(number: i32, handler: extern "C" fn(i32)) -> usize;
@@ -263,6 +267,43 @@ fn in_blocks(run: &mut Run, words: &mut Words, count: u64) {
     run.end(&format!("{} words cut at every byte, and their results handed in again", tried));
 }
 
+/// Random words in several spellings with one normalised form: those of one kind must have one stem. Spellings of two kinds, and how many of them have two stems,
+/// are counted.
+fn in_spellings(run: &mut Run, words: &mut Words, count: u64) {
+    run.begin("spellings");
+    run.checker.all_lengths = false;
+    let (mut one_kind, mut two_kinds, mut two_stems) = (0u64, 0u64, 0u64);
+    let mut tried = 0;
+    while tried < count && run.start.elapsed() < run.limit {
+        let word = String::from_utf8(words.word()).expect("a random word is well formed");
+        let normalised = arabic_test_copy::normalised(&word);
+        let mut seen: Vec<(String, bool, String)> = Vec::new();
+        for turn in 0..SPELLINGS {
+            let spelt = if turn == 0 { word.clone() } else { words.spelling(&normalised) };
+            run.take(spelt.as_bytes());
+            let (defined, texts) = match check::expected(spelt.as_bytes()) {
+                Ok(Expected::Given { defined, texts }) => (defined, texts),
+                _ => continue,
+            };
+            let [stem, own, _] = texts;
+            for (other, other_defined, other_stem) in &seen {
+                let same = *other_stem == stem;
+                if own != normalised || (defined == *other_defined && !same) {
+                    println!("spellings: {} and {} have the stems {} and {}", hex(other.as_bytes()), hex(spelt.as_bytes()), hex(other_stem.as_bytes()), hex(stem.as_bytes()));
+                    println!("{} compared, 1 different", run.compared + run.in_part + 1);
+                    std::process::exit(1)
+                }
+                one_kind += (defined == *other_defined) as u64;
+                two_kinds += (defined != *other_defined) as u64;
+                two_stems += !same as u64;
+            }
+            seen.push((spelt, defined, stem));
+        }
+        tried += 1;
+    }
+    run.end(&format!("{} words in up to {} spellings: {} pairs of one kind with one stem; {} pairs of two kinds, {} of them with two stems", tried, SPELLINGS, one_kind, two_kinds, two_stems));
+}
+
 fn list(run: &mut Run, path: &str) {
     run.begin("list");
     run.checker.all_lengths = true;
@@ -305,9 +346,10 @@ fn main() {
             "random" => random(&mut run, &mut words, number(3), false),
             "damaged" => random(&mut run, &mut words, number(3), true),
             "blocks" => in_blocks(&mut run, &mut words, number(3) / 10),
+            "spellings" => in_spellings(&mut run, &mut words, number(3) / 10),
             "list" => list(&mut run, &a[5]),
             _ => {
-                eprintln!("no part '{}': the parts are version, lengths, bytes, random, damaged, blocks, list, scalars, forms and letters", part);
+                eprintln!("no part '{}': the parts are version, lengths, bytes, random, damaged, blocks, spellings, list, scalars, forms and letters", part);
                 std::process::exit(2)
             }
         }

@@ -21,6 +21,8 @@ pub struct Words {
     letters: Vec<char>,
     /// Letters with the presentation forms that stand for them.
     forms: HashMap<String, Vec<&'static str>>,
+    /// The keys of A_0 that are deleted.
+    deleted: Vec<&'static str>,
     pub random: Random,
     /// The letters in the keys of A_1 to A_21, and U+062F, which is in none.
     pub table_letters: Vec<char>,
@@ -33,11 +35,9 @@ impl Words {
         let keys = arabic_test_copy::keys();
         let mut forms: HashMap<String, Vec<&'static str>> = HashMap::new();
         for key in &keys[0] {
-            let gives = arabic_test_copy::normalised(key);
-            if !gives.is_empty() {
-                forms.entry(gives).or_insert(Vec::new()).push(key);
-            }
+            forms.entry(arabic_test_copy::normalised(key)).or_insert(Vec::new()).push(key);
         }
+        let deleted = forms.remove("").expect("keys that are deleted");
         let letters_of = |tables: &[Vec<&'static str>]| {
             let mut letters: Vec<char> = tables.iter().flat_map(|t| t.iter()).flat_map(|k| k.chars()).chain(Some('\u{62F}')).collect();
             letters.sort();
@@ -47,7 +47,7 @@ impl Words {
         let table_letters = letters_of(&keys[1..]);
         let all_letters = letters_of(&keys);
         let letters = (0x621..0x63B).chain(0x641..0x64B).map(character).collect();
-        Words { keys: keys, letters: letters, forms: forms, random: Random::seeded(seed), table_letters: table_letters, all_letters: all_letters }
+        Words { keys: keys, letters: letters, forms: forms, deleted: deleted, random: Random::seeded(seed), table_letters: table_letters, all_letters: all_letters }
     }
 
     fn chance(&mut self, percent: usize) -> bool {
@@ -143,6 +143,23 @@ impl Words {
                 }
             }
             i += taken;
+        }
+        out
+    }
+
+    /// Another word with the same normalised form, which is given: letters as presentation forms, and keys between them that are deleted.
+    pub fn spelling(&mut self, normalised: &str) -> String {
+        let formed = if self.chance(60) { self.formed(normalised) } else { normalised.to_string() };
+        let often = self.random.pick(&[0, 0, 10, 30]);
+        let mut out = String::new();
+        for c in formed.chars() {
+            while self.chance(often) {
+                out.push_str(self.random.pick(&self.deleted));
+            }
+            out.push(c);
+        }
+        while self.chance(often) {
+            out.push_str(self.random.pick(&self.deleted));
         }
         out
     }
