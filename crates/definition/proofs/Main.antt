@@ -127,8 +127,8 @@ main-stem-of = stem-of
 pub main-depends : (u w : Word) → normalise u ≡ normalise w → kind u ≡ kind w → SameWay u w
 main-depends = same-way
 
--- the kind is needed: document 01's fifth and sixth words are one normalised word of two kinds, with two stems
-pub main-kind-needed : (normalise inForms ≡ normalise inLetters) × (kind inLetters ≡ DEFINED) × (kind inForms ≡ OPEN) × (stem inLetters ≡ waw ∷ jeem ∷ heh ∷ []) × (stem inForms ≡ alef ∷ lam ∷ waw ∷ jeem ∷ [])
+-- the kind is needed: document 01's fifth and sixth words have one normalised form, the fifth word itself, and two kinds and two stems
+pub main-kind-needed : (normalise inLetters ≡ inLetters) × (normalise inForms ≡ inLetters) × (kind inLetters ≡ DEFINED) × (kind inForms ≡ OPEN) × (stem inLetters ≡ waw ∷ jeem ∷ heh ∷ []) × (stem inForms ≡ alef ∷ lam ∷ waw ∷ jeem ∷ [])
 main-kind-needed = examples-right .7
 
 -- a defined word loses at most four letters behind, and fourGo loses four

@@ -121,12 +121,10 @@ one-word-two-kinds old h =
     let e6 = two-words .2 in
     let l6 = two-words .3 in
     record {
-      bytes =
-          all-written sixth old e6 h
-          ∙ bytes-are sixth inForms e6 l6 normalise ∙ ap encode (main-kind-needed .0) ∙ sym (bytes-are fifth inLetters e5 l5 normalise)
-          ∙ sym (all-written fifth old e5 h);
-      fifthKind = kind-is fifth inLetters e5 l5 DEFINED (main-kind-needed .1);
-      sixthKind = kind-is sixth inForms e6 l6 OPEN (main-kind-needed .2);
-      fifthStem = stem-is fifth inLetters e5 l5 (waw ∷ jeem ∷ heh ∷ []) (length old) (main-kind-needed .3) (omega arith);
-      sixthStem = stem-is sixth inForms e6 l6 (alef ∷ lam ∷ waw ∷ jeem ∷ []) (length old) (main-kind-needed .4) (omega arith);
+      fifthBytes = all-written fifth old e5 h ∙ bytes-are fifth inLetters e5 l5 normalise ∙ ap encode (main-kind-needed .0);
+      sixthBytes = all-written sixth old e6 h ∙ bytes-are sixth inForms e6 l6 normalise ∙ ap encode (main-kind-needed .1);
+      fifthKind = kind-is fifth inLetters e5 l5 DEFINED (main-kind-needed .2);
+      sixthKind = kind-is sixth inForms e6 l6 OPEN (main-kind-needed .3);
+      fifthStem = stem-is fifth inLetters e5 l5 (waw ∷ jeem ∷ heh ∷ []) (length old) (main-kind-needed .4) (omega arith);
+      sixthStem = stem-is sixth inForms e6 l6 (alef ∷ lam ∷ waw ∷ jeem ∷ []) (length old) (main-kind-needed .5) (omega arith);
     }

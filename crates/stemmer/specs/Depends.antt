@@ -34,9 +34,10 @@ fifth = encode inLetters
 abbrev pub sixth : List ℕ
 sixth = encode inForms
 
--- normalise writes the same bytes for both, and their kinds and their stems differ
+-- normalise writes the fifth word for both, and their kinds and their stems differ
 pub record OneWordTwoKinds (old : List ℕ) : Type 0 where
-  pub bytes : written normalise sixth old ≡ written normalise fifth old
+  pub fifthBytes : written normalise fifth old ≡ fifth
+  pub sixthBytes : written normalise sixth old ≡ fifth
   pub fifthKind : kindAnswer fifth ≡ record { code = 0; kind = flags DEFINED }
   pub sixthKind : kindAnswer sixth ≡ record { code = 0; kind = flags OPEN }
   pub fifthStem : answer stem fifth (length old) ≡ Done 6
