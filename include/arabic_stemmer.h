@@ -57,7 +57,8 @@ arabic_stemmer_answer arabic_stemmer_normalise(const uint8_t *word, size_t word_
  * in blocks, the last letter of each would change as a last letter. */
 arabic_stemmer_answer arabic_stemmer_finish(const uint8_t *word, size_t word_length, uint8_t *output, size_t output_length);
 
-/* Whether the word is defined. Codes are 0, 1 and 2; there is no output. */
+/* Whether the word is defined. Codes are 0, 1 and 2; there is no output. It goes by the word as typed: two words that are
+ * normalised to the same bytes may be of two kinds. If they are of one kind, they have the same stem. */
 arabic_stemmer_kind_answer arabic_stemmer_kind(const uint8_t *word, size_t word_length);
 
 /* The version of the library and the edition whose stems it gives, as ASCII text with no zero behind it. Codes are 0

@@ -80,9 +80,9 @@ defined-lost n = ends-after (Lost 4) (endings DEFINED n)
     (does-or (Lost 0) (Lost 4) (Lost 4) (Lost 4) (noun DEFINED) [] noun-lost (does-last (Lost 4) (Lost 4)))
     (uncut n) (omega arith))
 
-pub four-go : (w : Word) → kind w ≡ DEFINED → length (back w) ≤ 4
+pub at-most-four : (w : Word) → kind w ≡ DEFINED → length (back w) ≤ 4
 unfolding back cuts
-four-go w e = subst (λ (k : Kind). length (joined (cutting k (normalise w) .cuts)) ≤ 4) (sym e) (defined-lost (normalise w))
+at-most-four w e = subst (λ (k : Kind). length (joined (cutting k (normalise w) .cuts)) ≤ 4) (sym e) (defined-lost (normalise w))
 
 -- ---- which cuts an open word has
 
@@ -120,55 +120,86 @@ covered-2b : coveredByVerb (suffix nounStep2b) ≡ true
 unfolding suffix «A_13» «A_17» «A_18» endsWith same longest longer
 covered-2b = refl
 
+covered-2c1 : coveredByVerb (suffix nounStep2c1) ≡ true
+unfolding suffix «A_14» «A_17» «A_18» endsWith same longest longer
+covered-2c1 = refl
+
 covered-yeh : covers (suffix verbStep2a) (yeh ∷ []) 5 ≡ true
 unfolding suffix «A_18» endsWith same longest longer
 covered-yeh = refl
 
-module _ (w : Cutting) (b : Free w) (v : Cutting) (e : verb w ≡ failed v) where
+module _ (w v : Cutting) (e : verb w ≡ failed v) where
+  -- the step takes the row r of w
+  abbrev Takes : SuffixStep → ℕ → Type 0
+  Takes s r = taken (endsWith (w .text)) (suffix s) (length (w .text)) ≡ some r
+
+  not-covered : (s : SuffixStep) (r : ℕ) → coveredByVerb (suffix s) ≡ true → Takes s r → ⊥
+  not-covered s r c p = let q : none ≡ some r = sym (none-by-verb w (suffix s) c v e) ∙ p in let z : _≡_ {A = ℕ} 0 1 = cc in omega arith
+
+  not-yeh : Takes nounStep2a yehRow → ⊥
+  unfolding suffix «A_12»
+  not-yeh p =
+      let t = taken-some (endsWith (w .text)) (suffix nounStep2a) (length (w .text)) yehRow p in
+      cover (suffix verbStep2a) (w .text) (yeh ∷ []) 5 (length (w .text)) covered-yeh (t .matches) (t .enough) (verb-idle w v e)
+
+  -- no such cut is made
+  not-taken : (s : SuffixStep) (r : ℕ) → OnlyDefined s r → Takes s r → ⊥
+  not-taken verbStep1 r z p = z
+  not-taken verbStep2a r z p = z
+  not-taken verbStep2b r z p = z
+  not-taken verbStep2c r z p = z
+  not-taken nounStep1b r z p = not-covered nounStep1b r covered-1b p
+  not-taken nounStep2a r z p = not-yeh (subst (Takes nounStep2a) z p)
+  not-taken nounStep2b r z p = not-covered nounStep2b r covered-2b p
+  not-taken nounStep2c1 r z p = not-covered nounStep2c1 r covered-2c1 p
+  not-taken nounStep2c2 r z p = z
+  not-taken nounStep3 r z p = z
+
+pub verb-before : (n : Word) (s : SuffixStep) (r : ℕ) → OnlyDefined s r → taken (endsWith n) (suffix s) (length n) ≡ some r → (v : Cutting) × (verb (uncut n) ≡ done v)
+verb-before n s r d p = go (verb (uncut n)) refl
+  where
+    go : (t : Try Cutting) → verb (uncut n) ≡ t → (v : Cutting) × (verb (uncut n) ≡ done v)
+    go (done v) e = (v, e)
+    go (failed v) e = absurd (not-taken (uncut n) v e s r d p)
+
+-- ---- the noun of an open word n
+module _ (n : Word) (v : Cutting) (e : verb (uncut n) ≡ failed v) where
   abbrev Here : Cutting → Type 0
-  Here x = x ≡ w
+  Here x = x ≡ uncut n
 
   abbrev Never : Cutting → Type 0
   Never x = ⊥
 
-  -- a step at w, by what it takes there
-  at-w : (Q : Cutting → Type 0) (s : SuffixStep) → ((r : ℕ) → taken (endsWith (w .text)) (suffix s) (length (w .text)) ≡ some r → Q (cutOff w (record { step = s; row = r })))
-      → Does Here Q Here (cut s)
-  at-w Q s f x q = weaker Q (λ (y : Cutting). (y ≡ w) × Idle s w) Q Here (λ y p. p) (λ y p. p .0) (cut s x) (cut-at w Q s f x q)
+  -- a step at n, by what it takes there
+  here-does : (Q : Cutting → Type 0) (s : SuffixStep) → ((r : ℕ) → Takes (uncut n) v e s r → Q (cutOff (uncut n) (record { step = s; row = r }))) → Does Here Q Here (cut s)
+  here-does Q s f x q = weaker Q (λ (y : Cutting). (y ≡ uncut n) × Idle s (uncut n)) Q Here (λ y p. p) (λ y p. p .0) (cut s x) (cut-at (uncut n) Q s f x q)
 
-  idle-at-w : (s : SuffixStep) → coveredByVerb (suffix s) ≡ true → Does Here Never Here (cut s)
-  idle-at-w s c = at-w Never s (λ r p. let q : none ≡ some r = sym (none-by-verb w (suffix s) c v e) ∙ p in let z : _≡_ {A = ℕ} 0 1 = cc in omega arith)
+  here-free : (s : SuffixStep) → Does Here Free Here (cut s)
+  unfolding cutOff
+  here-free s = here-does Free s (λ r p. ((λ z. absurd (not-taken (uncut n) v e s r z p)), tt))
 
-  not-yeh : (r : ℕ) → taken (endsWith (w .text)) (suffix nounStep2a) (length (w .text)) ≡ some r → r ≡ yehRow → ⊥
-  unfolding suffix «A_12»
-  not-yeh r p q =
-      let tk = taken-some (endsWith (w .text)) (suffix nounStep2a) (length (w .text)) yehRow (subst (λ (i : ℕ). taken (endsWith (w .text)) (suffix nounStep2a) (length (w .text)) ≡ some i) q p) in
-      cover (suffix verbStep2a) (w .text) (yeh ∷ []) 5 (length (w .text)) covered-yeh (tk .matches) (tk .enough) (verb-idle w v e)
+  -- behind Step1b nothing is reached
+  step1b-free : Does Here Free Here nounByStep1b
+  step1b-free = does-then Here Free Here Never (cut nounStep1b) (firstOf afterNounStep1b) (here-does Never nounStep1b (λ r p. not-taken (uncut n) v e nounStep1b r tt p)) (λ x z. absurd z)
 
   noun-free : Does Here Free Free (noun OPEN)
-  unfolding noun cutOff
+  unfolding noun
   noun-free = does-then Here Free Free Free _ (cut nounStep3)
-      (does-or Here Free Free Here (cut nounStep2c2) _ (at-w Free nounStep2c2 (λ r p. ((λ z. absurd z), b)))
-      (does-or Here Free Free Here nounByStep1b _
-      (does-then Here Free Here Never (cut nounStep1b) (firstOf afterNounStep1b) (idle-at-w nounStep1b covered-1b) (λ x z. absurd z))
-      (does-or Here Free Free Here (ifOpen OPEN (cut nounStep2a)) _ (at-w Free nounStep2a (λ r p. ((λ z. absurd (not-yeh r p z)), b)))
-      (does-or Here Free Free Here (cut nounStep2b) _
-      (λ x q. weaker Never Here Free Here (λ y z. absurd z) (λ y p. p) (cut nounStep2b x) (idle-at-w nounStep2b covered-2b x q))
-      (does-or Here Free Free Never nothing [] (λ x q. subst Free (sym q) b) (λ x z. absurd z))))))
+      (does-or Here Free Free Here (cut nounStep2c2) _ (here-free nounStep2c2)
+      (does-or Here Free Free Here nounByStep1b _ step1b-free
+      (does-or Here Free Free Here (ifOpen OPEN (cut nounStep2a)) _ (here-free nounStep2a)
+      (does-or Here Free Free Here (cut nounStep2b) _ (here-free nounStep2b)
+      (does-or Here Free Free Never nothing [] (λ x q. subst Free (sym q) tt) (λ x z. absurd z))))))
       (cut-free nounStep3 (λ r z. absurd z))
 
--- ---- open words
 open-free : (n : Word) → Free (cutting OPEN n)
 unfolding cutting endings firstOf
-open-free n = go (verb w) refl
+open-free n = go (verb (uncut n)) refl
   where
-    w : Cutting
-    w = uncut n
-
-    go : (t : Try Cutting) → verb w ≡ t → Free (after (ifFailed t (firstOf (noun OPEN ∷ []))))
-    go (done v) e = subst (Ends Free Free) e (verb-keeps Free verb-cuts w tt)
-    go (failed v) e = subst (λ (x : Cutting). Free (after (firstOf (noun OPEN ∷ []) x))) (sym (verb-failed w v e))
-        (ends-after Free (firstOf (noun OPEN ∷ []) w) (does-or (λ (x : Cutting). x ≡ w) Free Free Free (noun OPEN) [] (noun-free w tt v e) (does-last Free Free) w refl))
+    go : (t : Try Cutting) → verb (uncut n) ≡ t → Free (after (ifFailed t (firstOf (noun OPEN ∷ []))))
+    go (done v) e = subst (Ends Free Free) e (verb-keeps Free verb-cuts (uncut n) tt)
+    go (failed v) e = subst (λ (x : Cutting). Free (after (firstOf (noun OPEN ∷ []) x))) (sym (verb-failed (uncut n) v e))
+        (ends-after Free (firstOf (noun OPEN ∷ []) (uncut n)) (does-or (λ (x : Cutting). x ≡ uncut n) Free Free Free (noun OPEN) [] (noun-free n v e) (does-last Free Free) (uncut n) refl))
 
 -- ---- of every word
 module _ (P : SuffixStep → ℕ → Type 0) where
@@ -187,3 +218,7 @@ by-kind DEFINED n = every-cut (Allowed DEFINED) (λ s r d. refl) (cutting DEFINE
 pub only-defined : (w : Word) → AllCuts (λ (s : SuffixStep) (r : ℕ). OnlyDefined s r → kind w ≡ DEFINED) (chain w)
 unfolding chain cuts
 only-defined w = turned (Allowed (kind w)) (cutting (kind w) (normalise w) .cuts) [] (by-kind (kind w) (normalise w)) tt
+
+pub only-these : (r : ℕ) → OnlyDefined nounStep1b r × OnlyDefined nounStep2b r × OnlyDefined nounStep2c1 r × OnlyDefined nounStep2a yehRow × (rowAt «A_12» yehRow .letters ≡ yeh ∷ [])
+unfolding «A_12»
+only-these r = (tt, tt, tt, refl, refl)

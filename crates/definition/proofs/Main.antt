@@ -3,24 +3,25 @@ use mathlib.Core.Path.{_≡_}
 use mathlib.Core.Bool.{true}
 use mathlib.Core.Logic.{_⊎_}
 use mathlib.Core.List.{[], _∷_, _++_, map}
+use mathlib.Core.Option.{some}
 use Prim.Native.Nat.{ℕ, _≤_, _<_}
 use lib.ListN.{length}
-use Rattle.definition.specs.Letters.{hamza, alefHamzaAbove, alef, beh, jeem, lam, heh, waw, yeh}
+use Rattle.definition.specs.Letters.{hamza, alefHamzaAbove, alef, beh, waw, yeh}
 use Rattle.definition.specs.Words.{Word, every, beginsWith, endsWith}
-use Rattle.definition.specs.Tables.{Table, «A_0», «A_1», «A_2», «A_21»}
-use Rattle.definition.specs.Search.{rowAt, longest}
+use Rattle.definition.specs.Tables.{Table, «A_0», «A_1», «A_2», «A_12», «A_21»}
+use Rattle.definition.specs.Search.{rowAt, longest, taken}
 use Rattle.definition.specs.Tries.{done, after, again}
-use Rattle.definition.specs.Kind.{Kind, OPEN, DEFINED, kind}
+use Rattle.definition.specs.Kind.{Kind, DEFINED, kind}
 use Rattle.definition.specs.Normal.{normal, normalise}
-use Rattle.definition.specs.Endings.{SuffixStep, Cutting, cut, endings, suffixAllAlefMaqsura, allEndings, maqsuraIfFailed}
+use Rattle.definition.specs.Endings.{SuffixStep, nounStep1b, nounStep2a, nounStep2b, nounStep2c1, suffix, Cutting, uncut, cut, verb, endings, suffixAllAlefMaqsura, allEndings, maqsuraIfFailed}
 use Rattle.definition.specs.Finish.{last, other, finish}
 use Rattle.definition.specs.Stem.{cutting, stemOf, stem, chain, back}
 use Rattle.definition.specs.Demand3.{NoKey, NoHamza, AllOf, Demand3}
 use Rattle.definition.specs.Facts.{Longest, distinct, allTables, plainLetter, noPlainKey, replaced, Idle, AllCuts, NotNoonAlef, cutWord}
 use Rattle.definition.specs.Examples.{computed, twelve, work, examples, samples, normalised, normalSamples}
 use Rattle.definition.specs.Listed.{EveryClassListed}
-use Rattle.definition.specs.Depends.{SameWay, inLetters, inForms, OnlyDefined, fourGo, definedWords, openWords}
-use Rattle.definition.proofs.Examples.{examples-right}
+use Rattle.definition.specs.Depends.{SameWay, OneWordTwoKinds, yehRow, OnlyDefined, DefinedCuts, OpenCuts}
+use Rattle.definition.proofs.Examples.{examples-right, depends-right}
 use Rattle.definition.proofs.Finish.{finish-joined, finish-all}
 use Rattle.definition.proofs.Listed.{every-class-listed}
 use Rattle.definition.proofs.Rows.{last-rows, other-rows, maqsura-row}
@@ -31,7 +32,7 @@ use Rattle.definition.proofs.Plain.{normalise-plain}
 use Rattle.definition.proofs.Twice.{normalise-joined, normalise-twice, finish-free, finish-stays, finish-twice, finish-apart, finish-with-none}
 use Rattle.definition.proofs.Again.{again-ends}
 use Rattle.definition.proofs.NoonAlef.{no-noon-alef}
-use Rattle.definition.proofs.DefinedWords.{four-go, only-defined}
+use Rattle.definition.proofs.DefinedWords.{at-most-four, only-these, only-defined, verb-before}
 use Rattle.definition.proofs.Depends.{stem-of, same-way}
 use Rattle.definition.proofs.Only.{demand3-only, no-cuts}
 use Rattle.definition.proofs.Demand3.{demand3}
@@ -127,27 +128,31 @@ main-stem-of = stem-of
 pub main-depends : (u w : Word) → normalise u ≡ normalise w → kind u ≡ kind w → SameWay u w
 main-depends = same-way
 
--- the kind is needed: document 01's fifth and sixth words have one normalised form, the fifth word itself, and two kinds and two stems
-pub main-kind-needed : (normalise inLetters ≡ inLetters) × (normalise inForms ≡ inLetters) × (kind inLetters ≡ DEFINED) × (kind inForms ≡ OPEN) × (stem inLetters ≡ waw ∷ jeem ∷ heh ∷ []) × (stem inForms ≡ alef ∷ lam ∷ waw ∷ jeem ∷ [])
-main-kind-needed = examples-right .7
+-- the kind is needed: document 01's fifth and sixth words have one normalised form, two kinds and two stems
+pub main-kind-needed : OneWordTwoKinds
+main-kind-needed = depends-right .0
 
--- a defined word loses at most four letters behind, and fourGo loses four
+-- a defined word loses at most four letters behind
 pub main-four : (w : Word) → kind w ≡ DEFINED → length (back w) ≤ 4
-main-four = four-go
-
-pub main-four-go : (kind fourGo ≡ DEFINED) × (length (back fourGo) ≡ 4)
-main-four-go = examples-right .6
+main-four = at-most-four
 
 -- a cut by the noun's Step1b, Step2b or Step2c1, or by the row 064A of its Step2a, is in a defined word
+pub main-these : (r : ℕ) → OnlyDefined nounStep1b r × OnlyDefined nounStep2b r × OnlyDefined nounStep2c1 r × OnlyDefined nounStep2a yehRow × (rowAt «A_12» yehRow .letters ≡ yeh ∷ [])
+main-these = only-these
+
 pub main-only-defined : (w : Word) → AllCuts (λ (s : SuffixStep) (r : ℕ). OnlyDefined s r → kind w ≡ DEFINED) (chain w)
 main-only-defined = only-defined
 
--- defined words in which each of these cuts is made, and open words in which the verb makes another in its place
-pub main-defined-words : map work definedWords ≡ definedWords
-main-defined-words = examples-right .4
+-- why: where one of them would take its row off a normalised word, the verb, which an open word tries before, succeeds
+pub main-verb-before : (n : Word) (s : SuffixStep) (r : ℕ) → OnlyDefined s r → taken (endsWith n) (suffix s) (length n) ≡ some r → (v : Cutting) × (verb (uncut n) ≡ done v)
+main-verb-before = verb-before
 
-pub main-open-words : map work openWords ≡ openWords
-main-open-words = examples-right .5
+-- defined words that lose four letters, and in which each of these cuts is made; open words with the same endings
+pub main-defined-cuts : DefinedCuts
+main-defined-cuts = depends-right .1
+
+pub main-open-cuts : OpenCuts
+main-open-cuts = depends-right .2
 
 -- ---- finishing
 

@@ -1,14 +1,15 @@
 -- What a stem depends on, which cuts are in defined words only, and words that show that these laws are tight (request A13).
 use mathlib.Core.Path.{_≡_}
-use mathlib.Core.List.{List, [], _∷_}
+use mathlib.Core.List.{List, [], _∷_, map}
 use Prim.Native.Nat.{ℕ}
-use Rattle.definition.specs.Letters.{alef, teh, dal, reh, seen, sad, tah, ain, feh, lam, meem, noon, waw, yeh}
+use lib.ListN.{length, take, drop}
+use Rattle.definition.specs.Letters.{alef, teh, jeem, dal, reh, seen, sad, tah, ain, feh, kaf, lam, meem, noon, heh, waw, yeh}
 use Rattle.definition.specs.Words.{Word}
-use Rattle.definition.specs.Kind.{OPEN, DEFINED}
-use Rattle.definition.specs.Endings.{SuffixStep, verbStep1, verbStep2a, verbStep2b, verbStep2c, nounStep1b, nounStep2a, nounStep2b, nounStep2c1, nounStep2c2, nounStep3}
-use Rattle.definition.specs.Fronts.{prefixStep3aNoun, at}
+use Rattle.definition.specs.Kind.{Kind, OPEN, DEFINED, kind}
+use Rattle.definition.specs.Normal.{normalise}
+use Rattle.definition.specs.Endings.{SuffixStep, verbStep1, verbStep2a, verbStep2b, verbStep2c, nounStep1b, nounStep2a, nounStep2b, nounStep2c1, nounStep2c2, nounStep3, Cut}
 use Rattle.definition.specs.Stem.{stem, chain, back, applied, front, headLetter, run}
-use Rattle.definition.specs.Examples.{Worked, worked, row}
+use Rattle.definition.specs.Examples.{Sample, twelve, row}
 
 -- ---- the normalised word and the kind
 
@@ -22,12 +23,27 @@ pub record SameWay (u w : Word) : Type 0 where
   pub heads : headLetter u ≡ headLetter w
   pub runs : run u ≡ run w
 
--- document 01's fifth word, and its sixth, which is the fifth in presentation forms
+-- document 01's fifth word, its sixth, which is the fifth in presentation forms, and the fifth with a vowel mark
 abbrev pub inLetters : Word
 inLetters = 0x627 ∷ 0x644 ∷ 0x648 ∷ 0x62C ∷ 0x647 ∷ []
 
 abbrev pub inForms : Word
 inForms = 0xFE8D ∷ 0xFEDF ∷ 0xFEEE ∷ 0xFE9F ∷ 0xFEEA ∷ []
+
+abbrev pub withMark : Word
+withMark = 0x627 ∷ 0x644 ∷ 0x648 ∷ 0x62C ∷ 0x64E ∷ 0x647 ∷ []
+
+-- all three have one normalised form; the first two have two kinds, and two stems
+pub record OneWordTwoKinds : Type 0 where
+  pub words : map (λ (s : Sample). s .word) (take 2 (drop 4 twelve)) ≡ inLetters ∷ inForms ∷ []
+  pub letters : normalise inLetters ≡ inLetters
+  pub forms : normalise inForms ≡ inLetters
+  pub mark : normalise withMark ≡ inLetters
+  pub lettersKind : kind inLetters ≡ DEFINED
+  pub formsKind : kind inForms ≡ OPEN
+  pub markKind : kind withMark ≡ DEFINED
+  pub lettersStem : stem inLetters ≡ waw ∷ jeem ∷ heh ∷ []
+  pub formsStem : stem inForms ≡ alef ∷ lam ∷ waw ∷ jeem ∷ []
 
 -- ---- cuts in defined words only
 
@@ -48,33 +64,30 @@ OnlyDefined nounStep2c1 r = Unit {0}
 OnlyDefined nounStep2c2 r = ⊥
 OnlyDefined nounStep3 r = ⊥
 
--- ---- words
+-- a word's kind, and its chain
+abbrev pub HasChain : Word → Kind → List Cut → Type 0
+HasChain w k cs = (kind w ≡ k) × (chain w ≡ cs)
 
--- a defined word that loses four letters behind
+-- 0627 0644 064A 0627 062A 0646
 abbrev pub fourGo : Word
 fourGo = alef ∷ lam ∷ yeh ∷ alef ∷ teh ∷ noon ∷ []
 
--- in defined words these cuts are made
-unfoldable pub definedWords : List Worked
-definedWords =
-    worked fourGo DEFINED (row nounStep1b 0 ∷ row nounStep2b 0 ∷ row nounStep3 0 ∷ []) [] (alef ∷ lam ∷ [])
-    -- a fifth letter that Step3 could take stays
-    ∷ worked (alef ∷ lam ∷ yeh ∷ yeh ∷ alef ∷ teh ∷ noon ∷ []) DEFINED (row nounStep1b 0 ∷ row nounStep2b 0 ∷ row nounStep3 0 ∷ []) [] (alef ∷ lam ∷ yeh ∷ [])
-    -- Step1b alone
-    ∷ worked (alef ∷ lam ∷ meem ∷ ain ∷ dal ∷ noon ∷ []) DEFINED (row nounStep1b 0 ∷ []) (at prefixStep3aNoun 0 ∷ []) (meem ∷ ain ∷ dal ∷ [])
-    -- Step2b alone
-    ∷ worked (alef ∷ lam ∷ sad ∷ feh ∷ alef ∷ teh ∷ []) DEFINED (row nounStep2b 0 ∷ []) [] (alef ∷ lam ∷ sad ∷ feh ∷ [])
-    -- Step2c1, which comes behind Step1b
-    ∷ worked (alef ∷ lam ∷ dal ∷ reh ∷ teh ∷ noon ∷ []) DEFINED (row nounStep1b 0 ∷ row nounStep2c1 0 ∷ []) [] (alef ∷ lam ∷ dal ∷ reh ∷ [])
-    -- and so does the row 064A of Step2a
-    ∷ worked (alef ∷ lam ∷ meem ∷ dal ∷ reh ∷ seen ∷ yeh ∷ noon ∷ []) DEFINED (row nounStep1b 0 ∷ row nounStep2a yehRow ∷ []) (at prefixStep3aNoun 0 ∷ []) (meem ∷ dal ∷ reh ∷ seen ∷ [])
-    ∷ []
+-- defined words in which these cuts are made
+pub record DefinedCuts : Type 0 where
+  -- four letters go; a fifth that Step3 would take stays
+  pub four : HasChain fourGo DEFINED (row nounStep1b 0 ∷ row nounStep2b 0 ∷ row nounStep3 0 ∷ [])
+  pub size : length (back fourGo) ≡ 4
+  pub fifth : HasChain (alef ∷ lam ∷ yeh ∷ yeh ∷ alef ∷ teh ∷ noon ∷ []) DEFINED (row nounStep1b 0 ∷ row nounStep2b 0 ∷ row nounStep3 0 ∷ [])
+  -- each of the three steps, and the row 064A of Step2a
+  pub step1b : HasChain (alef ∷ lam ∷ meem ∷ ain ∷ dal ∷ noon ∷ []) DEFINED (row nounStep1b 0 ∷ [])
+  pub step2b : HasChain (alef ∷ lam ∷ sad ∷ feh ∷ alef ∷ teh ∷ []) DEFINED (row nounStep2b 0 ∷ [])
+  pub step2c1 : HasChain (alef ∷ lam ∷ dal ∷ reh ∷ teh ∷ noon ∷ []) DEFINED (row nounStep1b 0 ∷ row nounStep2c1 0 ∷ [])
+  pub step2a : HasChain (alef ∷ lam ∷ meem ∷ dal ∷ reh ∷ seen ∷ yeh ∷ noon ∷ []) DEFINED (row nounStep1b 0 ∷ row nounStep2a yehRow ∷ [])
 
--- open words that end in the same letters: the verb takes the last of them before, or the last two
-unfoldable pub openWords : List Worked
-openWords =
-    worked (meem ∷ seen ∷ teh ∷ waw ∷ tah ∷ noon ∷ []) OPEN (row verbStep2a 0 ∷ []) [] (meem ∷ seen ∷ teh ∷ waw ∷ tah ∷ [])
-    ∷ worked (meem ∷ ain ∷ lam ∷ meem ∷ alef ∷ teh ∷ []) OPEN (row verbStep2a 10 ∷ []) [] (meem ∷ ain ∷ lam ∷ meem ∷ alef ∷ [])
-    ∷ worked (meem ∷ dal ∷ reh ∷ seen ∷ teh ∷ noon ∷ []) OPEN (row verbStep2a 4 ∷ []) [] (meem ∷ dal ∷ reh ∷ seen ∷ [])
-    ∷ worked (meem ∷ dal ∷ reh ∷ seen ∷ yeh ∷ []) OPEN (row verbStep2a 5 ∷ []) [] (meem ∷ dal ∷ reh ∷ seen ∷ [])
-    ∷ []
+-- open words with these endings: the verb cuts another
+pub record OpenCuts : Type 0 where
+  pub endsNoon : HasChain (meem ∷ seen ∷ teh ∷ waw ∷ tah ∷ noon ∷ []) OPEN (row verbStep2a 0 ∷ [])
+  pub endsKafNoon : HasChain (meem ∷ dal ∷ reh ∷ seen ∷ kaf ∷ noon ∷ []) OPEN (row verbStep1 3 ∷ [])
+  pub endsAlefTeh : HasChain (meem ∷ ain ∷ lam ∷ meem ∷ alef ∷ teh ∷ []) OPEN (row verbStep2a 10 ∷ [])
+  pub endsTehNoon : HasChain (meem ∷ dal ∷ reh ∷ seen ∷ teh ∷ noon ∷ []) OPEN (row verbStep2a 4 ∷ [])
+  pub endsYeh : HasChain (meem ∷ dal ∷ reh ∷ seen ∷ yeh ∷ []) OPEN (row verbStep2a 5 ∷ [])

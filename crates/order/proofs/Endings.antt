@@ -83,7 +83,7 @@ step1bSequel-0 k n = λ i. firstOf (allEndingChoices k (verbBy unexchanged) (inT
 
 -- ---- where the verb has failed, Step1b takes no row
 
--- the noun of an open word at which it takes none
+-- the noun of an open word at which Step1b takes no row
 open-noun : (v : Cutting) → Fails (cut nounStep1b) v → nounBy (pair nouns 1) OPEN v ≡ nounBy unexchanged OPEN v
 unfolding nounBy ordered exchanged _thenTry_
 open-noun v p = ap (λ (t : Try Cutting). andThen t (cut nounStep3))

@@ -11,7 +11,7 @@ use Rattle.definition.specs.Words.{Word}
 use Rattle.definition.specs.Kind.{Kind, OPEN, DEFINED, kind}
 use Rattle.definition.specs.Normal.{normalise}
 use Rattle.definition.specs.Stem.{stem}
-use Rattle.definition.specs.Depends.{inLetters, inForms}
+use Rattle.definition.specs.Depends.{inLetters, inForms, withMark}
 use Rattle.definition.proofs.Main.{main-depends, main-kind-needed}
 use Rattle.arabic.specs.Kinds.{flags, kindOf}
 use Rattle.arabic.proofs.Main.{main-grows}
@@ -19,10 +19,11 @@ use Rattle.arabic.proofs.Gives.{normalise-scalars}
 use Rattle.arabic.proofs.Checking.{kind-back}
 use Rattle.stemmer.specs.declared.Answer.the-variants.{Done}
 use Rattle.stemmer.specs.declared.Checked.{Checked}
+use Rattle.stemmer.specs.declared.KindAnswer.{KindAnswer}
 use Rattle.stemmer.specs.declared.Checked.the-variants.{Overlong, Malformed, Accepted}
 use Rattle.stemmer.specs.Entries.{enoughRoom, countOf, letters, bytesOf, checked, fitting, answer, outAfter, kindAfter, kindAnswer}
 use Rattle.stemmer.specs.Blocks.{outOf, written}
-use Rattle.stemmer.specs.Depends.{SameKept, SameStem, fifth, sixth, OneWordTwoKinds}
+use Rattle.stemmer.specs.Depends.{SameKept, SameStem, fifth, sixth, marked, OneWordTwoKinds}
 use Rattle.stemmer.proofs.Answers.{short, scalars, spelling, after, refused-overlong, refused-malformed, part-is}
 use Rattle.stemmer.proofs.Blocks.{done, written-done}
 
@@ -92,39 +93,65 @@ kept-stem u v old old′ s = by-checks u v (checked v) both refl (λ e.
     both : checked u ≡ checked v
     both = same-checks (checked u) (checked v) (kind (letters u)) (kind (letters v)) (s .codes)
 
--- ---- the kind is needed
+-- equal answers and outputs of normalise, and equal answers of kind, are enough
+pub same-kept : (u v old : List ℕ) → enoughRoom ≤ length old → answer normalise u (length old) ≡ answer normalise v (length old) → outOf normalise u old ≡ outOf normalise v old
+    → kindAnswer u ≡ kindAnswer v → SameKept u v old old
+same-kept u v old h a o k = record { room = h; room′ = h; bytes = λ i. take (countOf (a i)) (o i); codes = λ i. k i .code; kinds = λ i. k i .kind .defined }
 
-two-words : (checked fifth ≡ Accepted) × (letters fifth ≡ inLetters) × (checked sixth ≡ Accepted) × (letters sixth ≡ inForms)
+-- ---- document 01's fifth and sixth words, and the fifth with a mark
+
+spelt : (checked fifth ≡ Accepted) × (letters fifth ≡ inLetters) × (checked sixth ≡ Accepted) × (letters sixth ≡ inForms) × (checked marked ≡ Accepted) × (letters marked ≡ withMark)
 unfolding checked letters encode encode1 run step first filled onto
-two-words = (refl, refl, refl, refl)
+spelt = (refl, refl, refl, refl, refl, refl)
 
--- an accepted word with the letters w: what f makes of it, its kind, and its stem in an output that is long enough
+-- an accepted word with the letters w, and outputs that are long enough
 module _ (word : List ℕ) (w : Word) (e : checked word ≡ Accepted) (l : letters word ≡ w) where
-  bytes-are : (f : Word → Word) → bytesOf f word ≡ encode (f w)
+  bytes-are : (f : Word → Word) (t : Word) → f w ≡ t → bytesOf f word ≡ encode t
   unfolding bytesOf
-  bytes-are f = ap (λ (x : Word). encode (f x)) l
+  bytes-are f t q = ap (λ (x : Word). encode (f x)) l ∙ ap encode q
+
+  normalised-is : (old : List ℕ) (t : Word) → normalise w ≡ t → enoughRoom ≤ length old → written normalise word old ≡ encode t
+  normalised-is old t q h = all-written word old e h ∙ bytes-are normalise t q
 
   kind-is : (k : Kind) → kind w ≡ k → kindAnswer word ≡ record { code = 0; kind = flags k }
   unfolding kindAnswer
   kind-is k q = λ i. kindAfter (e i) ((ap kind l ∙ q) i)
 
-  stem-is : (t : Word) (room : ℕ) → stem w ≡ t → length (encode t) ≤ room → answer stem word room ≡ Done (length (encode t))
-  stem-is t room q h =
-      let b : length (bytesOf stem word) ≡ length (encode t) = ap length (bytes-are stem ∙ ap encode q) in
-      done stem word e room (omega (arith, b)) ∙ ap Done b
+  stem-is : (old : List ℕ) (t : Word) → stem w ≡ t → length (encode t) ≤ length old → (answer stem word (length old) ≡ Done (length (encode t))) × (written stem word old ≡ encode t)
+  stem-is old t q h =
+      let b : bytesOf stem word ≡ encode t = bytes-are stem t q in
+      let n : length (bytesOf stem word) ≡ length (encode t) = ap length b in
+      (done stem word e (length old) (omega (arith, n)) ∙ ap Done n, written-done stem word e old (omega (arith, n)) ∙ b)
 
-pub one-word-two-kinds : (old : List ℕ) → enoughRoom ≤ length old → OneWordTwoKinds old
-unfolding encode encode1
-one-word-two-kinds old h =
-    let e5 = two-words .0 in
-    let l5 = two-words .1 in
-    let e6 = two-words .2 in
-    let l6 = two-words .3 in
-    record {
-      fifthBytes = all-written fifth old e5 h ∙ bytes-are fifth inLetters e5 l5 normalise ∙ ap encode (main-kind-needed .0);
-      sixthBytes = all-written sixth old e6 h ∙ bytes-are sixth inForms e6 l6 normalise ∙ ap encode (main-kind-needed .1);
-      fifthKind = kind-is fifth inLetters e5 l5 DEFINED (main-kind-needed .2);
-      sixthKind = kind-is sixth inForms e6 l6 OPEN (main-kind-needed .3);
-      fifthStem = stem-is fifth inLetters e5 l5 (waw ∷ jeem ∷ heh ∷ []) (length old) (main-kind-needed .4) (omega arith);
-      sixthStem = stem-is sixth inForms e6 l6 (alef ∷ lam ∷ waw ∷ jeem ∷ []) (length old) (main-kind-needed .5) (omega arith);
-    }
+module _ (old : List ℕ) (h : enoughRoom ≤ length old) where
+  -- the kind is needed
+  pub one-word-two-kinds : OneWordTwoKinds old
+  unfolding encode encode1
+  one-word-two-kinds =
+      let m = main-kind-needed in
+      let s5 = stem-is fifth inLetters (spelt .0) (spelt .1) old (waw ∷ jeem ∷ heh ∷ []) (m .lettersStem) (omega arith) in
+      let s6 = stem-is sixth inForms (spelt .2) (spelt .3) old (alef ∷ lam ∷ waw ∷ jeem ∷ []) (m .formsStem) (omega arith) in
+      record {
+        fifthBytes = normalised-is fifth inLetters (spelt .0) (spelt .1) old inLetters (m .letters) h;
+        sixthBytes = normalised-is sixth inForms (spelt .2) (spelt .3) old inLetters (m .forms) h;
+        fifthKind = kind-is fifth inLetters (spelt .0) (spelt .1) DEFINED (m .lettersKind);
+        sixthKind = kind-is sixth inForms (spelt .2) (spelt .3) OPEN (m .formsKind);
+        fifthAnswer = s5 .0;
+        sixthAnswer = s6 .0;
+        fifthStem = s5 .1;
+        sixthStem = s6 .1;
+      }
+
+  -- and two spellings of one kind are the same to the index
+  pub one-word-one-kind : SameKept fifth marked old old
+  one-word-one-kind =
+      let m = main-kind-needed in
+      let k5 = kind-is fifth inLetters (spelt .0) (spelt .1) DEFINED (m .lettersKind) in
+      let km = kind-is marked withMark (spelt .4) (spelt .5) DEFINED (m .markKind) in
+      record {
+        room = h;
+        room′ = h;
+        bytes = normalised-is fifth inLetters (spelt .0) (spelt .1) old inLetters (m .letters) h ∙ sym (normalised-is marked withMark (spelt .4) (spelt .5) old inLetters (m .mark) h);
+        codes = ap (λ (a : KindAnswer). a .code) (k5 ∙ sym km);
+        kinds = ap (λ (a : KindAnswer). a .kind .defined) (k5 ∙ sym km);
+      }

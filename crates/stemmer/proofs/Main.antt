@@ -11,12 +11,12 @@ use Rattle.definition.specs.Normal.{normalise}
 use Rattle.definition.specs.Finish.{finish}
 use Rattle.stemmer.specs.declared.Answer.the-variants.{Done, TooLong}
 use Rattle.stemmer.specs.declared.Checked.the-variants.{Accepted}
-use Rattle.stemmer.specs.Entries.{mostBytes, enoughRoom, codeOf, bytesOf, checked, answer, outAfter}
+use Rattle.stemmer.specs.Entries.{mostBytes, enoughRoom, codeOf, bytesOf, checked, answer, outAfter, kindAnswer}
 use Rattle.stemmer.specs.Blocks.{outOf, written, Joins, Again, ligatures, alefBlock, behBlock}
-use Rattle.stemmer.specs.Depends.{SameKept, SameStem, OneWordTwoKinds}
+use Rattle.stemmer.specs.Depends.{SameKept, SameStem, fifth, marked, OneWordTwoKinds}
 use Rattle.stemmer.proofs.Answers.{front, over-long}
 use Rattle.stemmer.proofs.Blocks.{joins, blocks, anywhere, normalise-again, blocks-again, finish-keeps, finish-again, joins-bound, again-bound, short-normalised, grown, finished-apart, finish-no-joins}
-use Rattle.stemmer.proofs.Depends.{kept-stem, one-word-two-kinds}
+use Rattle.stemmer.proofs.Depends.{kept-stem, same-kept, one-word-one-kind, one-word-two-kinds}
 
 -- the output afterwards is what the contracts of the entries say
 pub main-out : (f : Word → Word) (word old : List ℕ) → outOf f word old ≡ outAfter (answer f word (length old)) (bytesOf f word) old
@@ -91,11 +91,18 @@ main-finish-not-joined = finish-no-joins
 
 -- ---- what an index may keep in place of the typed word
 
--- Two words for which normalise, with room for every result, has written the same bytes, and kind has answered the same, have the same answer of the stem entries.
--- It holds of any two strings of bytes, refused ones included.
+-- two strings of bytes for which normalise, with room for every result, has written the same, and kind has answered the same, have the same answers of the stem entries
 pub main-depends : (u v old old′ : List ℕ) → SameKept u v old old′ → SameStem u v
 main-depends = kept-stem
 
--- without the kind it does not: document 01's fifth and sixth words
+-- equal answers and outputs of normalise, and equal answers of kind, are enough for it; and two spellings of one word meet it
+pub main-kept : (u v old : List ℕ) → enoughRoom ≤ length old → answer normalise u (length old) ≡ answer normalise v (length old) → outOf normalise u old ≡ outOf normalise v old
+    → kindAnswer u ≡ kindAnswer v → SameKept u v old old
+main-kept = same-kept
+
+pub main-spellings : (old : List ℕ) → enoughRoom ≤ length old → SameKept fifth marked old old
+main-spellings = one-word-one-kind
+
+-- without the kind it does not hold: document 01's fifth and sixth words
 pub main-kind-needed : (old : List ℕ) → enoughRoom ≤ length old → OneWordTwoKinds old
 main-kind-needed = one-word-two-kinds

@@ -1,13 +1,14 @@
 -- What an index keeps of a word in place of the typed one, and what two words that it cannot tell apart have in common (request A13).
 use Prim.Native.Nat.{ℕ, _≤_}
 use mathlib.Core.Path.{_≡_}
-use mathlib.Core.List.{List}
+use mathlib.Core.List.{List, [], _∷_}
 use lib.ListN.{length}
 use Rattle.utf8.specs.Utf8.{encode}
+use Rattle.definition.specs.Letters.{alef, jeem, lam, heh, waw}
 use Rattle.definition.specs.Kind.{OPEN, DEFINED}
 use Rattle.definition.specs.Normal.{normalise}
 use Rattle.definition.specs.Stem.{stem}
-use Rattle.definition.specs.Depends.{inLetters, inForms}
+use Rattle.definition.specs.Depends.{inLetters, inForms, withMark}
 use Rattle.arabic.specs.Kinds.{flags}
 use Rattle.stemmer.specs.declared.Answer.the-variants.{Done}
 use Rattle.stemmer.specs.Entries.{enoughRoom, bytesOf, answer, partAfter, kindAnswer}
@@ -27,18 +28,23 @@ pub record SameStem (u v : List ℕ) : Type 0 where
   pub outputs : (old : List ℕ) → outOf stem u old ≡ outOf stem v old
   pub parts : (old : List ℕ) → partAfter (answer stem u (length old)) (bytesOf stem u) ≡ partAfter (answer stem v (length old)) (bytesOf stem v)
 
--- document 01's fifth word and its sixth, in bytes
+-- document 01's fifth word, its sixth, and the fifth with a vowel mark, in bytes
 abbrev pub fifth : List ℕ
 fifth = encode inLetters
 
 abbrev pub sixth : List ℕ
 sixth = encode inForms
 
--- normalise writes the fifth word for both, and their kinds and their stems differ
+abbrev pub marked : List ℕ
+marked = encode withMark
+
+-- normalise writes the fifth word for the fifth and the sixth, and their kinds and their stems differ
 pub record OneWordTwoKinds (old : List ℕ) : Type 0 where
   pub fifthBytes : written normalise fifth old ≡ fifth
   pub sixthBytes : written normalise sixth old ≡ fifth
   pub fifthKind : kindAnswer fifth ≡ record { code = 0; kind = flags DEFINED }
   pub sixthKind : kindAnswer sixth ≡ record { code = 0; kind = flags OPEN }
-  pub fifthStem : answer stem fifth (length old) ≡ Done 6
-  pub sixthStem : answer stem sixth (length old) ≡ Done 8
+  pub fifthAnswer : answer stem fifth (length old) ≡ Done 6
+  pub sixthAnswer : answer stem sixth (length old) ≡ Done 8
+  pub fifthStem : written stem fifth old ≡ encode (waw ∷ jeem ∷ heh ∷ [])
+  pub sixthStem : written stem sixth old ≡ encode (alef ∷ lam ∷ waw ∷ jeem ∷ [])
