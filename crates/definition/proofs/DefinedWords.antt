@@ -1,4 +1,4 @@
--- A defined word loses at most four letters behind, and some cuts are in defined words only: in open words the verb takes what they would take. Assumes nothing.
+-- A defined word loses at most four letters behind, and some cuts are in defined words only: where they would be made, the verb, which an open word tries before, succeeds. Assumes nothing.
 use mathlib.Core.Path.{_≡_, refl, sym, _∙_, subst}
 use mathlib.Core.Bool.{Bool, true}
 use mathlib.Core.List.{List, [], _∷_, reverseAux}

@@ -68,7 +68,7 @@ OnlyDefined nounStep3 r = ⊥
 abbrev pub HasChain : Word → Kind → List Cut → Type 0
 HasChain w k cs = (kind w ≡ k) × (chain w ≡ cs)
 
--- 0627 0644 064A 0627 062A 0646
+-- a defined word that loses four letters behind
 abbrev pub fourGo : Word
 fourGo = alef ∷ lam ∷ yeh ∷ alef ∷ teh ∷ noon ∷ []
 

@@ -19,8 +19,8 @@ use Rattle.arabic.proofs.Gives.{normalise-scalars}
 use Rattle.arabic.proofs.Checking.{kind-back}
 use Rattle.stemmer.specs.declared.Answer.the-variants.{Done}
 use Rattle.stemmer.specs.declared.Checked.{Checked}
-use Rattle.stemmer.specs.declared.KindAnswer.{KindAnswer}
 use Rattle.stemmer.specs.declared.Checked.the-variants.{Overlong, Malformed, Accepted}
+use Rattle.stemmer.specs.declared.KindAnswer.{KindAnswer}
 use Rattle.stemmer.specs.Entries.{enoughRoom, countOf, letters, bytesOf, checked, fitting, answer, outAfter, kindAfter, kindAnswer}
 use Rattle.stemmer.specs.Blocks.{outOf, written}
 use Rattle.stemmer.specs.Depends.{SameKept, SameStem, fifth, sixth, marked, OneWordTwoKinds}
