@@ -267,8 +267,8 @@ fn in_blocks(run: &mut Run, words: &mut Words, count: u64) {
     run.end(&format!("{} words cut at every byte, and their results handed in again", tried));
 }
 
-/// Random words in several spellings with one normalised form: those of one kind must have one stem. Spellings of two kinds, and how many of them have two stems,
-/// are counted.
+/// Random words in several spellings with one normalised form: those of one kind must have one stem. Pairs of two kinds, and how many of them have two stems,
+/// are counted. A spelling that comes again makes no pair.
 fn in_spellings(run: &mut Run, words: &mut Words, count: u64) {
     run.begin("spellings");
     run.checker.all_lengths = false;
@@ -281,6 +281,9 @@ fn in_spellings(run: &mut Run, words: &mut Words, count: u64) {
         for turn in 0..SPELLINGS {
             let spelt = if turn == 0 { word.clone() } else { words.spelling(&normalised) };
             run.take(spelt.as_bytes());
+            if seen.iter().any(|(other, _, _)| *other == spelt) {
+                continue;
+            }
             let (defined, texts) = match check::expected(spelt.as_bytes()) {
                 Ok(Expected::Given { defined, texts }) => (defined, texts),
                 _ => continue,
@@ -301,7 +304,7 @@ fn in_spellings(run: &mut Run, words: &mut Words, count: u64) {
         }
         tried += 1;
     }
-    run.end(&format!("{} words in up to {} spellings: {} pairs of one kind with one stem; {} pairs of two kinds, {} of them with two stems", tried, SPELLINGS, one_kind, two_kinds, two_stems));
+    run.end(&format!("{} words in up to {} spellings: {} pairs of two spellings of one kind, with one stem; {} of two kinds, {} of them with two stems", tried, SPELLINGS, one_kind, two_kinds, two_stems));
 }
 
 fn list(run: &mut Run, path: &str) {

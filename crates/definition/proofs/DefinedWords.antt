@@ -1,8 +1,8 @@
 -- A defined word loses at most four letters behind, and some cuts are in defined words only: where they would be made, the verb, which an open word tries before, succeeds. Assumes nothing.
-use mathlib.Core.Path.{_≡_, refl, sym, _∙_, subst}
+use mathlib.Core.Path.{_≡_, refl, sym, subst}
 use mathlib.Core.Bool.{Bool, true}
 use mathlib.Core.List.{List, [], _∷_, reverseAux}
-use mathlib.Core.Option.{none, some}
+use mathlib.Core.Option.{some}
 use Prim.Native.Nat.{ℕ, _+_, _≤_}
 use native.Mathlib.Omega.{arith}
 use lib.Dec.{leb}
@@ -23,7 +23,7 @@ use Rattle.definition.proofs.Found.{taken-some, all-at}
 use Rattle.definition.proofs.Triples.{Ends, Does, Keeps, ends-after, weaker, does-then, does-or, does-last}
 use Rattle.definition.proofs.Cutting.{Verbal, cut-at, cut-does, verb-keeps}
 use Rattle.definition.proofs.Cover.{covers, cover}
-use Rattle.definition.proofs.Verb.{coveredByVerb, verb-failed, verb-idle, none-by-verb}
+use Rattle.definition.proofs.Verb.{coveredByVerb, verb-failed, verb-idle, verb-done, not-by-verb}
 
 -- ---- how many letters go behind
 
@@ -133,9 +133,6 @@ module _ (w v : Cutting) (e : verb w ≡ failed v) where
   abbrev Takes : SuffixStep → ℕ → Type 0
   Takes s r = taken (endsWith (w .text)) (suffix s) (length (w .text)) ≡ some r
 
-  not-covered : (s : SuffixStep) (r : ℕ) → coveredByVerb (suffix s) ≡ true → Takes s r → ⊥
-  not-covered s r c p = let q : none ≡ some r = sym (none-by-verb w (suffix s) c v e) ∙ p in let z : _≡_ {A = ℕ} 0 1 = cc in omega arith
-
   not-yeh : Takes nounStep2a yehRow → ⊥
   unfolding suffix «A_12»
   not-yeh p =
@@ -148,19 +145,15 @@ module _ (w v : Cutting) (e : verb w ≡ failed v) where
   not-taken verbStep2a r z p = z
   not-taken verbStep2b r z p = z
   not-taken verbStep2c r z p = z
-  not-taken nounStep1b r z p = not-covered nounStep1b r covered-1b p
+  not-taken nounStep1b r z p = not-by-verb w (suffix nounStep1b) covered-1b r p v e
   not-taken nounStep2a r z p = not-yeh (subst (Takes nounStep2a) z p)
-  not-taken nounStep2b r z p = not-covered nounStep2b r covered-2b p
-  not-taken nounStep2c1 r z p = not-covered nounStep2c1 r covered-2c1 p
+  not-taken nounStep2b r z p = not-by-verb w (suffix nounStep2b) covered-2b r p v e
+  not-taken nounStep2c1 r z p = not-by-verb w (suffix nounStep2c1) covered-2c1 r p v e
   not-taken nounStep2c2 r z p = z
   not-taken nounStep3 r z p = z
 
 pub verb-before : (n : Word) (s : SuffixStep) (r : ℕ) → OnlyDefined s r → taken (endsWith n) (suffix s) (length n) ≡ some r → (v : Cutting) × (verb (uncut n) ≡ done v)
-verb-before n s r d p = go (verb (uncut n)) refl
-  where
-    go : (t : Try Cutting) → verb (uncut n) ≡ t → (v : Cutting) × (verb (uncut n) ≡ done v)
-    go (done v) e = (v, e)
-    go (failed v) e = absurd (not-taken (uncut n) v e s r d p)
+verb-before n s r d p = verb-done (uncut n) (λ v e. not-taken (uncut n) v e s r d p)
 
 -- ---- the noun of an open word n
 module _ (n : Word) (v : Cutting) (e : verb (uncut n) ≡ failed v) where

@@ -97,16 +97,23 @@ module _ (w : Cutting) where
   pub verb-idle : (v : Cutting) → verb w ≡ failed v → Idle verbStep2a w
   verb-idle v e = untaken v e .two
 
+  -- where it cannot fail, it succeeds
+  pub verb-done : ((v : Cutting) → verb w ≡ failed v → ⊥) → (v : Cutting) × (verb w ≡ done v)
+  verb-done f = go (verb w) refl
+    where
+      go : (t : Try Cutting) → verb w ≡ t → (v : Cutting) × (verb w ≡ done v)
+      go (done v) e = (v, e)
+      go (failed v) e = absurd (f v e)
+
   module _ (s : Rule) (c : coveredByVerb s ≡ true) where
     pub none-by-verb : (v : Cutting) → verb w ≡ failed v → taken (endsWith (w .text)) s (length (w .text)) ≡ none
     none-by-verb v e = uncovered s w c (untaken v e .one) (untaken v e .two)
 
+    pub not-by-verb : (r : ℕ) → taken (endsWith (w .text)) s (length (w .text)) ≡ some r → (v : Cutting) → verb w ≡ failed v → ⊥
+    not-by-verb r p v e =
+        let q : none ≡ some r = sym (none-by-verb v e) ∙ p in
+        let z : _≡_ {A = ℕ} 0 1 = cc in
+        omega arith
+
     pub taken-by-verb : (r : ℕ) → taken (endsWith (w .text)) s (length (w .text)) ≡ some r → (v : Cutting) × (verb w ≡ done v)
-    taken-by-verb r p = go (verb w) refl
-      where
-        go : (t : Try Cutting) → verb w ≡ t → (v : Cutting) × (verb w ≡ done v)
-        go (done v) e = (v, e)
-        go (failed v) e =
-            let q : none ≡ some r = sym (none-by-verb v e) ∙ p in
-            let z : _≡_ {A = ℕ} 0 1 = cc in
-            absurd (omega arith)
+    taken-by-verb r p = verb-done (not-by-verb r p)
