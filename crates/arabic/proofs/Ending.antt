@@ -23,24 +23,25 @@ use Rattle.snowball.specs.declared.env.Env.{Env}
 use Rattle.snowball.specs.declared.among.Found.{Found}
 use Rattle.snowball.specs.Search.{Behind}
 use Rattle.snowball.specs.Stands.{Stands, Standing}
-use Rattle.arabic.specs.Endings.{atEnd, Ends, Gives, placeBy, endingAt}
+use Rattle.arabic.specs.Endings.{atEnd, Ends, Gives, placeBy, endingAt, TakesEnding}
 use Rattle.arabic.proofs.Guarded.{no-class, too-few, enough}
 
--- ---- where the ending begins
+-- ---- the row, and where the ending begins
 module _ (s : SuffixStep) (w : Word) (limit : ℕ) (f : Found) (b : Behind (suffix s .table) w limit f) where
-  begins-at : (o : Option ℕ) → taken (endsWith w) (suffix s) (length w) ≡ o → placeBy s limit o ≡ endingAt s w limit
+  begins-at : (place : ℕ) (o : Option ℕ) → taken (endsWith w) (suffix s) (length w) ≡ o → place ≡ placeBy s limit o → TakesEnding s w limit (record { row = f .row; place = place })
   unfolding endingAt
-  begins-at o q = ap (placeBy s limit) (sym q)
+  begins-at place o q e = record { row = b .finds .row; place = e ∙ ap (placeBy s limit) (sym q) }
 
-  pub no-row : f .class ≡ 0 → limit ≡ endingAt s w limit
-  no-row h = begins-at none (no-class (endsWith w) (suffix s) (length w) (f .class) (b .class) h)
+  pub no-row : f .class ≡ 0 → TakesEnding s w limit (record { row = f .row; place = limit })
+  no-row h = begins-at limit none (no-class (endsWith w) (suffix s) (length w) (f .class) (b .finds .class) h) refl
 
   module _ (some1 : f .class ≡ 0 → ⊥) (n g : ℕ) (en : n ≡ length w) (eg : g ≡ leastLetters (suffix s .guards) (f .class)) where
-    pub too-short : n < g → limit ≡ endingAt s w limit
-    too-short h = begins-at none (too-few (endsWith w) (suffix s) (length w) (f .class) (b .class) some1 n g en eg h)
+    pub too-short : n < g → TakesEnding s w limit (record { row = f .row; place = limit })
+    too-short h = begins-at limit none (too-few (endsWith w) (suffix s) (length w) (f .class) (b .finds .class) some1 n g en eg h) refl
 
-    pub long-enough : g ≤ n → f .cursor ≡ endingAt s w limit
-    long-enough h = b .cursor ∙ begins-at (some (longest (endsWith w) (suffix s .table))) (enough (endsWith w) (suffix s) (length w) (f .class) (b .class) some1 n g en eg h)
+    pub long-enough : g ≤ n → TakesEnding s w limit (record { row = f .row; place = f .cursor })
+    long-enough h =
+        begins-at (f .cursor) (some (longest (endsWith w) (suffix s .table))) (enough (endsWith w) (suffix s) (length w) (f .class) (b .finds .class) some1 n g en eg h) (b .cursor)
 
 -- ---- an environment at the end of its text
 module _ (e : Env) (v : Cutting) (st : Ends e v) where

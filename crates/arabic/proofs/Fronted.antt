@@ -14,6 +14,8 @@ use Rattle.definition.specs.Tables.{Row, «A_4», «A_5», «A_6», «A_7», «
 use Rattle.definition.specs.Search.{rowAt, leastLetters, taken}
 use Rattle.definition.specs.Tries.{failed}
 use Rattle.definition.specs.Fronts.{PrefixStep, prefixStep1, prefixStep2, prefixStep3aNoun, prefixStep3bNoun, prefixStep3Verb, prefixStep4Verb, prefix, replacements, notAt, Applied, frontRow, replacement, Fronting, text, passing, headed, change, beginsWithAny, applyBy, applyUnless, apply, started}
+use Rattle.definition.specs.StepRow.{ofFront, stepRow}
+use Rattle.definition.proofs.StepRow.{row-ended, row-searched}
 use Rattle.definition.proofs.Match.{by, by-le, both-0, both-1, begins-split}
 use Rattle.definition.proofs.Found.{taken-some, all-at}
 use Rattle.definition.proofs.FrontRows.{replacedBy}
@@ -39,20 +41,20 @@ use Rattle.arabic.proofs.Guarded.{no-class, too-few, enough}
 
 -- ---- the row that is taken
 module _ (s : PrefixStep) (t rest : Word) (at : ℕ) (f : Found) (a : Ahead (prefix s .table) rest at f) where
-  none-taken : taken (beginsWith rest) (prefix s) (length t) ≡ none → Takes s t rest at (record { class = 0; cursor = at })
-  none-taken q = record { class = sym (ap (classBy s) q); cursor = sym (ap (behindBy s at) q) }
+  none-taken : taken (beginsWith rest) (prefix s) (length t) ≡ none → Takes s t rest at (record { row = f .row; class = 0; cursor = at })
+  none-taken q = record { row = a .finds .row; class = sym (ap (classBy s) q); cursor = sym (ap (behindBy s at) q) }
 
-  pub no-row : f .class ≡ 0 → Takes s t rest at (record { class = 0; cursor = at })
-  no-row h = none-taken (no-class (beginsWith rest) (prefix s) (length t) (f .class) (a .class) h)
+  pub no-row : f .class ≡ 0 → Takes s t rest at (record { row = f .row; class = 0; cursor = at })
+  no-row h = none-taken (no-class (beginsWith rest) (prefix s) (length t) (f .class) (a .finds .class) h)
 
   module _ (some1 : f .class ≡ 0 → ⊥) (n g : ℕ) (en : n ≡ length t) (eg : g ≡ leastLetters (prefix s .guards) (f .class)) where
-    pub too-short : n < g → Takes s t rest at (record { class = 0; cursor = at })
-    too-short h = none-taken (too-few (beginsWith rest) (prefix s) (length t) (f .class) (a .class) some1 n g en eg h)
+    pub too-short : n < g → Takes s t rest at (record { row = f .row; class = 0; cursor = at })
+    too-short h = none-taken (too-few (beginsWith rest) (prefix s) (length t) (f .class) (a .finds .class) some1 n g en eg h)
 
     pub long-enough : g ≤ n → Takes s t rest at f
     long-enough h =
-        let q = enough (beginsWith rest) (prefix s) (length t) (f .class) (a .class) some1 n g en eg h in
-        record { class = a .class ∙ sym (ap (classBy s) q); cursor = a .cursor ∙ sym (ap (behindBy s at) q) }
+        let q = enough (beginsWith rest) (prefix s) (length t) (f .class) (a .finds .class) some1 n g en eg h in
+        record { row = a .finds .row; class = a .finds .class ∙ sym (ap (classBy s) q); cursor = a .cursor ∙ sym (ap (behindBy s at) q) }
 
 -- ---- a test of every step's rows: the row has letters and a class that is listed, and what is put for it is no longer in bytes
 abbrev rowFits : PrefixStep → Row → Bool
@@ -151,9 +153,10 @@ module _ (x : Env) (w : Fronting) (st : Fronts x w) where
   failed-as s h = subst (GivesFront (record { found = false; env = x })) h (record { found = refl; env = st })
 
   -- a text at which the step fails
-  pub barred : (s : PrefixStep) → beginsWithAny (w .rest) (notAt s) ≡ true → GivesFront (record { found = false; env = x }) (apply s w)
+  pub barred : (s : PrefixStep) → beginsWithAny (w .rest) (notAt s) ≡ true
+      → GivesFront (record { found = false; env = x }) (apply s w) × (length (prefix s .table) ≡ stepRow (ofFront s) (w .rest))
   unfolding apply
-  barred s h = failed-as s (sym (ap (λ (b : Bool). applyUnless b s w) h))
+  barred s h = (failed-as s (sym (ap (λ (b : Bool). applyUnless b s w) h)), sym (row-ended (ofFront s) (w .rest) h))
 
   -- a key before the rest, as the code looks for it
   pub looks : (key : List ℕ) (c : ℕ) (cs : Word) → low (c ∷ cs) ≡ true → key ≡ encode (c ∷ cs)
@@ -207,6 +210,10 @@ module _ (s : PrefixStep) (w : Fronting) (x : Env) (st : Fronts x w) (f : Found)
     apply-is : (o : Option ℕ) → taken (beginsWith (w .rest)) (prefix s) (length (text w)) ≡ o → applyBy s w o ≡ apply s w
     unfolding apply
     apply-is o q = ap (applyBy s w) (sym q) ∙ sym (ap (λ (b : Bool). applyUnless b s w) nb)
+
+    -- the row of the search is the step's
+    pub row-is : f .row ≡ stepRow (ofFront s) (w .rest)
+    row-is = tk .row ∙ sym (row-searched (ofFront s) (w .rest) nb)
 
     pub not-replaced : f .class ≡ 0 → GivesFront (record { found = false; env = x }) (apply s w)
     not-replaced h = go (taken (beginsWith (w .rest)) (prefix s) (length (text w))) refl

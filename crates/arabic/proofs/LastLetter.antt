@@ -47,12 +47,12 @@ letters-are w e = rw e refl
 module _ (x : Env) (w : Word) (st : Stands x (atEnd w)) (f : Found) (b : Behind «A_21» w (x .limit) f) where
   pub not-last : f .class ≡ 0 → Stands x (atEnd (suffixAllAlefMaqsura w))
   not-last h = by (endsWith w last)
-      (λ e. absurd (omega (arith, b .class ∙ class-is w ∙ ap (λ (t : Bool). pick t 1 0) e)))
+      (λ e. absurd (omega (arith, b .finds .class ∙ class-is w ∙ ap (λ (t : Bool). pick t 1 0) e)))
       (λ e. subst (λ (v : Word). Stands x (atEnd v)) (sym (maqsura-stays w e)) st)
 
   module _ (some1 : f .class ≡ 0 → ⊥) where
     ends : endsWith w last ≡ true
-    ends = by (endsWith w last) (λ e. e) (λ e. absurd (some1 (b .class ∙ class-is w ∙ ap (λ (t : Bool). pick t 1 0) e)))
+    ends = by (endsWith w last) (λ e. e) (λ e. absurd (some1 (b .finds .class ∙ class-is w ∙ ap (λ (t : Bool). pick t 1 0) e)))
 
     m : ℕ
     m = length w - 1

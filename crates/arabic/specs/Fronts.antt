@@ -7,7 +7,7 @@ use mathlib.Core.Option.{Option, none, some}
 use lib.Dec.{eqb}
 use lib.ListN.{length}
 use Rattle.definition.specs.Words.{Word, both, beginsWith}
-use Rattle.definition.specs.Search.{rowAt, taken}
+use Rattle.definition.specs.Search.{rowAt, longest, taken}
 use Rattle.definition.specs.Tries.{Try}
 use Rattle.definition.specs.Fronts.{PrefixStep, prefix, replacements, Applied, frontRow, replacement, Fronting, text, change, started}
 use Rattle.utf8.specs.Utf8.{encode}
@@ -53,8 +53,9 @@ abbrev pub behindBy : PrefixStep → ℕ → Option ℕ → ℕ
 behindBy s at none = at
 behindBy s at (some r) = at + size (rowAt (prefix s .table) r .letters)
 
--- f has the class and the end of the row that s takes where rest follows the cursor at in the text t; class 0 and the cursor where it takes none
+-- f has the longest row of s where rest follows the cursor at in the text t, and the class and the end of the row that s takes; class 0 and the cursor where it takes none
 pub record Takes (s : PrefixStep) (t rest : Word) (at : ℕ) (f : Found) : Type 0 where
+  pub row : f .row ≡ longest (beginsWith rest) (prefix s .table)
   pub class : f .class ≡ classBy s (taken (beginsWith rest) (prefix s) (length t))
   pub cursor : f .cursor ≡ behindBy s at (taken (beginsWith rest) (prefix s) (length t))
 

@@ -7,6 +7,7 @@ ghost use mathlib.Core.Path.{_≡_};
 ghost use lib.ListN.{take};
 ghost use Rattle.definition.specs.Words.{Word};
 ghost use Rattle.definition.specs.Kind.{kind};
+ghost use Rattle.definition.specs.StepRow.{kindCheck, stepRow};
 ghost use Rattle.utf8.specs.Utf8.{Scalars, encode};
 ghost use Rattle.arabic.specs.Bytes.{Spelt};
 ghost use Rattle.arabic.specs.Kinds.{flags};
@@ -32,10 +33,16 @@ impl Kind {
     };
 }
 
+// The row of the kind check's search, and the kind.
+pub struct KindFound {
+    pub row: usize,
+    pub kind: Kind,
+}
+
 // The kind of the word in front of the limit: defined where it begins with a row of A_3 and has enough letters for its class.
-pub fn kind_of(text: &[u8], limit: usize) -> Kind
+pub fn kind_of(text: &[u8], limit: usize) -> KindFound
     requires { ⌜ Spelt (now text) limit ⌝ }
-    ensures { λ r. ⌜ ((w : Word) → Scalars w → take limit (now (text .entry)) ≡ encode w → r ≡ flags (kind w)) ⌝ }
+    ensures { λ r. ⌜ ((w : Word) → Scalars w → take limit (now (text .entry)) ≡ encode w → (r .kind ≡ flags (kind w)) × (r .row ≡ stepRow kindCheck w)) ⌝ }
 {
     let f = find_among(
         text,
@@ -46,13 +53,23 @@ pub fn kind_of(text: &[u8], limit: usize) -> Kind
         &tables::A_3_LINKS,
         &tables::A_3_CLASSES,
     );
+    let row = f.row;
     let class = f.class;
     if class == 0 {
-        return Kind::OPEN;
+        return KindFound {
+            row,
+            kind: Kind::OPEN,
+        };
     }
     let least = least_letters(&[5, 4], class);
     if has_chars(text, limit, least) {
-        return Kind::DEFINED;
+        return KindFound {
+            row,
+            kind: Kind::DEFINED,
+        };
     }
-    Kind::OPEN
+    KindFound {
+        row,
+        kind: Kind::OPEN,
+    }
 }

@@ -25,7 +25,8 @@ fn or_Step2b(t: Tried) -> Tried
         return t;
     }
     let x = t.env;
-    r_Suffix_Noun_Step2b(x)
+    let s = r_Suffix_Noun_Step2b(x);
+    s.tried
 }
 
 fn or_Step2c1(t: Tried) -> Tried
@@ -36,7 +37,8 @@ fn or_Step2c1(t: Tried) -> Tried
         return t;
     }
     let x = t.env;
-    r_Suffix_Noun_Step2c1(x)
+    let s = r_Suffix_Noun_Step2c1(x);
+    s.tried
 }
 
 // Behind Step1b: Step2a, else Step2b, else Step2c1.
@@ -45,7 +47,7 @@ fn after_Step1b(env: Env) -> Tried
     ensures { λ r. ⌜ ((v : Cutting) → Ends env v → Gives r (afterStep1b v)) ⌝ }
 {
     let a = r_Suffix_Noun_Step2a(env);
-    let b = or_Step2b(a);
+    let b = or_Step2b(a.tried);
     or_Step2c1(b)
 }
 
@@ -66,7 +68,7 @@ fn by_Step1b(env: Env) -> Tried
     ensures { λ r. ⌜ ((v : Cutting) → Ends env v → Gives r (byStep1b v)) ⌝ }
 {
     let a = r_Suffix_Noun_Step1b(env);
-    then_after_Step1b(a)
+    then_after_Step1b(a.tried)
 }
 
 // If the word is open, Step2a.
@@ -77,7 +79,8 @@ fn open_Step2a(env: Env, b_is_defined: bool) -> Tried
     if b_is_defined {
         return Tried { found: false, env };
     }
-    r_Suffix_Noun_Step2a(env)
+    let s = r_Suffix_Noun_Step2a(env);
+    s.tried
 }
 
 // The first alternative that succeeds; the last one always does. The Rust's second one, Step1a with its sequel, is left out.
@@ -86,10 +89,10 @@ fn first_cut(env: Env, b_is_defined: bool) -> Tried
     ensures { λ r. ⌜ (r .found ≡ true) × ((v : Cutting) → Ends env v → Gives r (nounFirst (kindOf «b_is_defined») v)) ⌝ }
 {
     let a = r_Suffix_Noun_Step2c2(env);
-    if a.found {
-        return a;
+    if a.tried.found {
+        return a.tried;
     }
-    let x = a.env;
+    let x = a.tried.env;
     let b = by_Step1b(x);
     if b.found {
         return b;
@@ -101,7 +104,7 @@ fn first_cut(env: Env, b_is_defined: bool) -> Tried
     }
     let z = c.env;
     let d = r_Suffix_Noun_Step2b(z);
-    or_nothing(d)
+    or_nothing(d.tried)
 }
 
 // The noun: its first alternative, and then Step3.
@@ -111,5 +114,6 @@ pub fn noun(env: Env, b_is_defined: bool) -> Tried
 {
     let t = first_cut(env, b_is_defined);
     let x = t.env;
-    r_Suffix_Noun_Step3(x)
+    let s = r_Suffix_Noun_Step3(x);
+    s.tried
 }

@@ -1,4 +1,5 @@
 // The two halves of a step that changes the front: which row it takes, read off the text, and what replaces the row.
+use crate::tried::Searched;
 use crate::tried::Tried;
 use crate::tried::least_letters;
 use snowball::among::Found;
@@ -13,14 +14,15 @@ ghost use lib.ListN.{length, take};
 ghost use lib.Dec.{T};
 ghost use Rattle.definition.specs.Words.{Word};
 ghost use Rattle.definition.specs.Fronts.{PrefixStep, prefix, notAt, Fronting, text, beginsWithAny, apply};
+ghost use Rattle.definition.specs.StepRow.{ofFront, stepRow};
 ghost use Rattle.utf8.specs.Utf8.{Scalars, encode};
 ghost use Rattle.snowball.specs.Rows.{keys, wellFormed, rowsOf, byteTable, plain};
 ghost use Rattle.snowball.specs.Search.{between};
 ghost use Rattle.arabic.specs.Bytes.{Encodes, Spelt};
 ghost use Rattle.arabic.specs.Fronts.{Fronts, GivesFront, Takes, Puts, ChangesInPlace};
 
-// The row that a step with this table and these guards takes at the cursor: its class, and the cursor behind it. Class 0
-// and the old cursor where it takes none.
+// What a step with this table and these guards finds at the cursor: the row of its search, and, where it takes that row, its class and the
+// cursor behind it. Where it takes none, class 0 and the old cursor.
 pub fn front_row(
     text: &[u8],
     cursor: usize,
@@ -39,26 +41,39 @@ pub fn front_row(
         → Takes s t rest cursor r) ⌝ }
 {
     let f = find_among(text, cursor, limit, rows, lens, links, classes);
+    let row = f.row;
     let class = f.class;
     if class == 0 {
-        return Found { class: 0, cursor };
+        return Found {
+            row,
+            class: 0,
+            cursor,
+        };
     }
     let least = least_letters(guards, class);
     if has_chars(text, limit, least) {
         return f;
     }
-    Found { class: 0, cursor }
+    Found {
+        row,
+        class: 0,
+        cursor,
+    }
 }
 
 // Replaces the row at the cursor by what stands for its class, and the cursor goes behind it. With class 0 the step fails.
-pub fn replace_front(env: Env, f: Found, news: &[[u8; 6]], lens: &[u8]) -> Tried
+pub fn replace_front(env: Env, f: Found, news: &[[u8; 6]], lens: &[u8]) -> Searched
     requires { ⌜ ((s : PrefixStep) × ((w : Fronting) × (Fronts env w × (Takes s (text w) (w .rest) (env .cursor) f × Puts s (now news) (now lens))))) ⌝ }
     ensures { λ r. ⌜ ((s : PrefixStep) (w : Fronting) → Fronts env w → Takes s (text w) (w .rest) (env .cursor) f → Puts s (now (news .entry)) (now (lens .entry))
-        → beginsWithAny (w .rest) (notAt s) ≡ false → ChangesInPlace s w → GivesFront r (apply s w)) ⌝ }
+        → beginsWithAny (w .rest) (notAt s) ≡ false → ChangesInPlace s w → GivesFront (r .tried) (apply s w) × (r .row ≡ stepRow (ofFront s) (w .rest))) ⌝ }
 {
+    let row = f.row;
     let class = f.class;
     if class == 0 {
-        return Tried { found: false, env };
+        return Searched {
+            row,
+            tried: Tried { found: false, env },
+        };
     }
     let k = wide(class - 1);
     let n = wide(lens[k]);
@@ -68,8 +83,11 @@ pub fn replace_front(env: Env, f: Found, news: &[[u8; 6]], lens: &[u8]) -> Tried
     e.cursor = f.cursor;
     e.ket = f.cursor;
     let d = e.slice_from(&new[0..n]);
-    Tried {
-        found: true,
-        env: d,
+    Searched {
+        row,
+        tried: Tried {
+            found: true,
+            env: d,
+        },
     }
 }

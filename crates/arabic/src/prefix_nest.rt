@@ -20,9 +20,9 @@ fn verb_steps(env: Env, context: Context) -> Tried
     ensures { λ r. ⌜ ((w : Fronting) → Fronts env w → GivesFront r (verbSteps w)) ⌝ }
 {
     let a = r_Prefix_Step3_Verb(env);
-    let x = a.env;
+    let x = a.tried.env;
     let s = step4_verb(x, context);
-    s.tried
+    s.searched.tried
 }
 
 // Step1, Step2, and then the first of three alternatives; the last is for open words alone.
@@ -31,21 +31,21 @@ pub fn prefixes(env: Env, context: Context) -> Tried
     ensures { λ r. ⌜ ((w : Word) → Fronts env (started w) → GivesFront r (prefixSteps (kindByVerb (context .«b_is_verb»)) (started w))) ⌝ }
 {
     let a = r_Prefix_Step1(env);
-    let x = a.env;
+    let x = a.tried.env;
     let b = r_Prefix_Step2(x);
-    let y = b.env;
+    let y = b.tried.env;
     let c = r_Prefix_Step3a_Noun(y);
-    if c.found {
-        return c;
+    if c.tried.found {
+        return c.tried;
     }
-    let z = c.env;
+    let z = c.tried.env;
     let d = r_Prefix_Step3b_Noun(z);
-    if d.found {
-        return d;
+    if d.tried.found {
+        return d.tried;
     }
     if context.b_is_verb {
-        let u = d.env;
+        let u = d.tried.env;
         return verb_steps(u, context);
     }
-    d
+    d.tried
 }

@@ -3,17 +3,20 @@
 use crate::prefix_halves::front_row;
 use crate::prefix_halves::replace_front;
 use crate::tables;
+use crate::tried::Searched;
 use crate::tried::Tried;
 use snowball::env::Env;
 use snowball::env::stands_at;
+ghost use mathlib.Core.Path.{_≡_};
 ghost use Rattle.definition.specs.Words.{Word};
 ghost use Rattle.definition.specs.Fronts.{Fronting, prefixStep1, prefixStep2, prefixStep3aNoun, prefixStep3bNoun, prefixStep3Verb, prefixStep4Verb, apply, started};
+ghost use Rattle.definition.specs.StepRow.{ofFront, stepRow};
 ghost use Rattle.arabic.specs.Fronts.{Fronts, ReadyFront, ReadyStart, GivesFront};
 
 // Only at the start of the text.
-pub fn r_Prefix_Step1(env: Env) -> Tried
+pub fn r_Prefix_Step1(env: Env) -> Searched
     requires { ⌜ ReadyStart env ⌝ }
-    ensures { λ r. ⌜ ((w : Word) → Fronts env (started w) → GivesFront r (apply prefixStep1 (started w))) ⌝ }
+    ensures { λ r. ⌜ ((w : Word) → Fronts env (started w) → GivesFront (r .tried) (apply prefixStep1 (started w)) × (r .row ≡ stepRow (ofFront prefixStep1) w)) ⌝ }
 {
     let cursor = env.cursor;
     let limit = env.limit;
@@ -41,17 +44,23 @@ pub fn r_Prefix_Step1(env: Env) -> Tried
     )
 }
 
-pub fn r_Prefix_Step2(env: Env) -> Tried
+pub fn r_Prefix_Step2(env: Env) -> Searched
     requires { ⌜ ReadyFront env ⌝ }
-    ensures { λ r. ⌜ ((w : Fronting) → Fronts env w → GivesFront r (apply prefixStep2 w)) ⌝ }
+    ensures { λ r. ⌜ ((w : Fronting) → Fronts env w → GivesFront (r .tried) (apply prefixStep2 w) × (r .row ≡ stepRow (ofFront prefixStep2) (w .rest))) ⌝ }
 {
     let cursor = env.cursor;
     let limit = env.limit;
     if stands_at(&env.current, cursor, limit, b"\xD9\x81\xD8\xA7") {
-        return Tried { found: false, env };
+        return Searched {
+            row: tables::A_5_ROWS.len(),
+            tried: Tried { found: false, env },
+        };
     }
     if stands_at(&env.current, cursor, limit, b"\xD9\x88\xD8\xA7") {
-        return Tried { found: false, env };
+        return Searched {
+            row: tables::A_5_ROWS.len(),
+            tried: Tried { found: false, env },
+        };
     }
     let f = front_row(
         &env.current,
@@ -66,9 +75,9 @@ pub fn r_Prefix_Step2(env: Env) -> Tried
     replace_front(env, f, &[[0, 0, 0, 0, 0, 0], [0, 0, 0, 0, 0, 0]], &[0, 0])
 }
 
-pub fn r_Prefix_Step3a_Noun(env: Env) -> Tried
+pub fn r_Prefix_Step3a_Noun(env: Env) -> Searched
     requires { ⌜ ReadyFront env ⌝ }
-    ensures { λ r. ⌜ ((w : Fronting) → Fronts env w → GivesFront r (apply prefixStep3aNoun w)) ⌝ }
+    ensures { λ r. ⌜ ((w : Fronting) → Fronts env w → GivesFront (r .tried) (apply prefixStep3aNoun w) × (r .row ≡ stepRow (ofFront prefixStep3aNoun) (w .rest))) ⌝ }
 {
     let cursor = env.cursor;
     let limit = env.limit;
@@ -85,14 +94,17 @@ pub fn r_Prefix_Step3a_Noun(env: Env) -> Tried
     replace_front(env, f, &[[0, 0, 0, 0, 0, 0], [0, 0, 0, 0, 0, 0]], &[0, 0])
 }
 
-pub fn r_Prefix_Step3b_Noun(env: Env) -> Tried
+pub fn r_Prefix_Step3b_Noun(env: Env) -> Searched
     requires { ⌜ ReadyFront env ⌝ }
-    ensures { λ r. ⌜ ((w : Fronting) → Fronts env w → GivesFront r (apply prefixStep3bNoun w)) ⌝ }
+    ensures { λ r. ⌜ ((w : Fronting) → Fronts env w → GivesFront (r .tried) (apply prefixStep3bNoun w) × (r .row ≡ stepRow (ofFront prefixStep3bNoun) (w .rest))) ⌝ }
 {
     let cursor = env.cursor;
     let limit = env.limit;
     if stands_at(&env.current, cursor, limit, b"\xD8\xA8\xD8\xA7") {
-        return Tried { found: false, env };
+        return Searched {
+            row: tables::A_7_ROWS.len(),
+            tried: Tried { found: false, env },
+        };
     }
     let f = front_row(
         &env.current,
@@ -116,9 +128,9 @@ pub fn r_Prefix_Step3b_Noun(env: Env) -> Tried
     )
 }
 
-pub fn r_Prefix_Step3_Verb(env: Env) -> Tried
+pub fn r_Prefix_Step3_Verb(env: Env) -> Searched
     requires { ⌜ ReadyFront env ⌝ }
-    ensures { λ r. ⌜ ((w : Fronting) → Fronts env w → GivesFront r (apply prefixStep3Verb w)) ⌝ }
+    ensures { λ r. ⌜ ((w : Fronting) → Fronts env w → GivesFront (r .tried) (apply prefixStep3Verb w) × (r .row ≡ stepRow (ofFront prefixStep3Verb) (w .rest))) ⌝ }
 {
     let cursor = env.cursor;
     let limit = env.limit;
@@ -146,9 +158,9 @@ pub fn r_Prefix_Step3_Verb(env: Env) -> Tried
 }
 
 // What r_Prefix_Step4_Verb of `context` does to the text; the flags are stored there.
-pub fn replace_Prefix_Step4_Verb(env: Env) -> Tried
+pub fn replace_Prefix_Step4_Verb(env: Env) -> Searched
     requires { ⌜ ReadyFront env ⌝ }
-    ensures { λ r. ⌜ ((w : Fronting) → Fronts env w → GivesFront r (apply prefixStep4Verb w)) ⌝ }
+    ensures { λ r. ⌜ ((w : Fronting) → Fronts env w → GivesFront (r .tried) (apply prefixStep4Verb w) × (r .row ≡ stepRow (ofFront prefixStep4Verb) (w .rest))) ⌝ }
 {
     let cursor = env.cursor;
     let limit = env.limit;

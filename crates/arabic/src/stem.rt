@@ -76,6 +76,6 @@ pub fn stem(env: Env) -> Env
     ensures { λ r. ⌜ ((w : Word) → Stands env (started w) → Stands r (started (stem w))) ⌝ }
 {
     let limit = env.limit;
-    let context = checked(&env.current, limit);
-    stem_of(env, context)
+    let c = checked(&env.current, limit);
+    stem_of(env, c.context)
 }

@@ -48,5 +48,6 @@ pub fn suffixes(env: Env, b_is_defined: bool, b_is_verb: bool) -> Env
     if found {
         return x;
     }
-    r_Suffix_All_alef_maqsura(x)
+    let m = r_Suffix_All_alef_maqsura(x);
+    m.env
 }

@@ -2,20 +2,22 @@
 use crate::suffix_halves::cut_ending;
 use crate::suffix_halves::ending;
 use crate::tables;
-use crate::tried::Tried;
+use crate::tried::Searched;
 use snowball::among::find_among_b;
 use snowball::env::Env;
+ghost use mathlib.Core.Path.{_≡_};
 ghost use Rattle.definition.specs.Words.{Word};
 ghost use Rattle.definition.specs.Endings.{Cutting, cut, verbStep1, verbStep2a, verbStep2b, verbStep2c, nounStep1b, nounStep2a, nounStep2b, nounStep2c1, nounStep2c2, nounStep3, suffixAllAlefMaqsura};
+ghost use Rattle.definition.specs.StepRow.{ofEnding, alefMaqsura, stepRow};
 ghost use Rattle.snowball.specs.Stands.{Stands};
 ghost use Rattle.arabic.specs.Endings.{Ends, Ready, Gives, atEnd};
 
-pub fn r_Suffix_Verb_Step1(env: Env) -> Tried
+pub fn r_Suffix_Verb_Step1(env: Env) -> Searched
     requires { ⌜ Ready env ⌝ }
-    ensures { λ r. ⌜ ((v : Cutting) → Ends env v → Gives r (cut verbStep1 v)) ⌝ }
+    ensures { λ r. ⌜ ((v : Cutting) → Ends env v → Gives (r .tried) (cut verbStep1 v) × (r .row ≡ stepRow (ofEnding verbStep1) (v .text))) ⌝ }
 {
     let limit = env.limit;
-    let place = ending(
+    let f = ending(
         &env.current,
         limit,
         &tables::A_17_ROWS,
@@ -24,15 +26,15 @@ pub fn r_Suffix_Verb_Step1(env: Env) -> Tried
         &tables::A_17_CLASSES,
         &[4, 5, 6],
     );
-    cut_ending(env, place)
+    cut_ending(env, f)
 }
 
-pub fn r_Suffix_Verb_Step2a(env: Env) -> Tried
+pub fn r_Suffix_Verb_Step2a(env: Env) -> Searched
     requires { ⌜ Ready env ⌝ }
-    ensures { λ r. ⌜ ((v : Cutting) → Ends env v → Gives r (cut verbStep2a v)) ⌝ }
+    ensures { λ r. ⌜ ((v : Cutting) → Ends env v → Gives (r .tried) (cut verbStep2a v) × (r .row ≡ stepRow (ofEnding verbStep2a) (v .text))) ⌝ }
 {
     let limit = env.limit;
-    let place = ending(
+    let f = ending(
         &env.current,
         limit,
         &tables::A_18_ROWS,
@@ -41,15 +43,15 @@ pub fn r_Suffix_Verb_Step2a(env: Env) -> Tried
         &tables::A_18_CLASSES,
         &[4, 4, 5, 6, 6],
     );
-    cut_ending(env, place)
+    cut_ending(env, f)
 }
 
-pub fn r_Suffix_Verb_Step2b(env: Env) -> Tried
+pub fn r_Suffix_Verb_Step2b(env: Env) -> Searched
     requires { ⌜ Ready env ⌝ }
-    ensures { λ r. ⌜ ((v : Cutting) → Ends env v → Gives r (cut verbStep2b v)) ⌝ }
+    ensures { λ r. ⌜ ((v : Cutting) → Ends env v → Gives (r .tried) (cut verbStep2b v) × (r .row ≡ stepRow (ofEnding verbStep2b) (v .text))) ⌝ }
 {
     let limit = env.limit;
-    let place = ending(
+    let f = ending(
         &env.current,
         limit,
         &tables::A_19_ROWS,
@@ -58,15 +60,15 @@ pub fn r_Suffix_Verb_Step2b(env: Env) -> Tried
         &tables::A_19_CLASSES,
         &[5],
     );
-    cut_ending(env, place)
+    cut_ending(env, f)
 }
 
-pub fn r_Suffix_Verb_Step2c(env: Env) -> Tried
+pub fn r_Suffix_Verb_Step2c(env: Env) -> Searched
     requires { ⌜ Ready env ⌝ }
-    ensures { λ r. ⌜ ((v : Cutting) → Ends env v → Gives r (cut verbStep2c v)) ⌝ }
+    ensures { λ r. ⌜ ((v : Cutting) → Ends env v → Gives (r .tried) (cut verbStep2c v) × (r .row ≡ stepRow (ofEnding verbStep2c) (v .text))) ⌝ }
 {
     let limit = env.limit;
-    let place = ending(
+    let f = ending(
         &env.current,
         limit,
         &tables::A_20_ROWS,
@@ -75,17 +77,17 @@ pub fn r_Suffix_Verb_Step2c(env: Env) -> Tried
         &tables::A_20_CLASSES,
         &[4, 6],
     );
-    cut_ending(env, place)
+    cut_ending(env, f)
 }
 
 // r_Suffix_Noun_Step1a of the Rust, with its table A_10, is left out: it cuts in no word, as the crate old_noun shows.
 
-pub fn r_Suffix_Noun_Step1b(env: Env) -> Tried
+pub fn r_Suffix_Noun_Step1b(env: Env) -> Searched
     requires { ⌜ Ready env ⌝ }
-    ensures { λ r. ⌜ ((v : Cutting) → Ends env v → Gives r (cut nounStep1b v)) ⌝ }
+    ensures { λ r. ⌜ ((v : Cutting) → Ends env v → Gives (r .tried) (cut nounStep1b v) × (r .row ≡ stepRow (ofEnding nounStep1b) (v .text))) ⌝ }
 {
     let limit = env.limit;
-    let place = ending(
+    let f = ending(
         &env.current,
         limit,
         &tables::A_11_ROWS,
@@ -94,15 +96,15 @@ pub fn r_Suffix_Noun_Step1b(env: Env) -> Tried
         &tables::A_11_CLASSES,
         &[6],
     );
-    cut_ending(env, place)
+    cut_ending(env, f)
 }
 
-pub fn r_Suffix_Noun_Step2a(env: Env) -> Tried
+pub fn r_Suffix_Noun_Step2a(env: Env) -> Searched
     requires { ⌜ Ready env ⌝ }
-    ensures { λ r. ⌜ ((v : Cutting) → Ends env v → Gives r (cut nounStep2a v)) ⌝ }
+    ensures { λ r. ⌜ ((v : Cutting) → Ends env v → Gives (r .tried) (cut nounStep2a v) × (r .row ≡ stepRow (ofEnding nounStep2a) (v .text))) ⌝ }
 {
     let limit = env.limit;
-    let place = ending(
+    let f = ending(
         &env.current,
         limit,
         &tables::A_12_ROWS,
@@ -111,15 +113,15 @@ pub fn r_Suffix_Noun_Step2a(env: Env) -> Tried
         &tables::A_12_CLASSES,
         &[5],
     );
-    cut_ending(env, place)
+    cut_ending(env, f)
 }
 
-pub fn r_Suffix_Noun_Step2b(env: Env) -> Tried
+pub fn r_Suffix_Noun_Step2b(env: Env) -> Searched
     requires { ⌜ Ready env ⌝ }
-    ensures { λ r. ⌜ ((v : Cutting) → Ends env v → Gives r (cut nounStep2b v)) ⌝ }
+    ensures { λ r. ⌜ ((v : Cutting) → Ends env v → Gives (r .tried) (cut nounStep2b v) × (r .row ≡ stepRow (ofEnding nounStep2b) (v .text))) ⌝ }
 {
     let limit = env.limit;
-    let place = ending(
+    let f = ending(
         &env.current,
         limit,
         &tables::A_13_ROWS,
@@ -128,15 +130,15 @@ pub fn r_Suffix_Noun_Step2b(env: Env) -> Tried
         &tables::A_13_CLASSES,
         &[5],
     );
-    cut_ending(env, place)
+    cut_ending(env, f)
 }
 
-pub fn r_Suffix_Noun_Step2c1(env: Env) -> Tried
+pub fn r_Suffix_Noun_Step2c1(env: Env) -> Searched
     requires { ⌜ Ready env ⌝ }
-    ensures { λ r. ⌜ ((v : Cutting) → Ends env v → Gives r (cut nounStep2c1 v)) ⌝ }
+    ensures { λ r. ⌜ ((v : Cutting) → Ends env v → Gives (r .tried) (cut nounStep2c1 v) × (r .row ≡ stepRow (ofEnding nounStep2c1) (v .text))) ⌝ }
 {
     let limit = env.limit;
-    let place = ending(
+    let f = ending(
         &env.current,
         limit,
         &tables::A_14_ROWS,
@@ -145,15 +147,15 @@ pub fn r_Suffix_Noun_Step2c1(env: Env) -> Tried
         &tables::A_14_CLASSES,
         &[4],
     );
-    cut_ending(env, place)
+    cut_ending(env, f)
 }
 
-pub fn r_Suffix_Noun_Step2c2(env: Env) -> Tried
+pub fn r_Suffix_Noun_Step2c2(env: Env) -> Searched
     requires { ⌜ Ready env ⌝ }
-    ensures { λ r. ⌜ ((v : Cutting) → Ends env v → Gives r (cut nounStep2c2 v)) ⌝ }
+    ensures { λ r. ⌜ ((v : Cutting) → Ends env v → Gives (r .tried) (cut nounStep2c2 v) × (r .row ≡ stepRow (ofEnding nounStep2c2) (v .text))) ⌝ }
 {
     let limit = env.limit;
-    let place = ending(
+    let f = ending(
         &env.current,
         limit,
         &tables::A_15_ROWS,
@@ -162,15 +164,15 @@ pub fn r_Suffix_Noun_Step2c2(env: Env) -> Tried
         &tables::A_15_CLASSES,
         &[4],
     );
-    cut_ending(env, place)
+    cut_ending(env, f)
 }
 
-pub fn r_Suffix_Noun_Step3(env: Env) -> Tried
+pub fn r_Suffix_Noun_Step3(env: Env) -> Searched
     requires { ⌜ Ready env ⌝ }
-    ensures { λ r. ⌜ ((v : Cutting) → Ends env v → Gives r (cut nounStep3 v)) ⌝ }
+    ensures { λ r. ⌜ ((v : Cutting) → Ends env v → Gives (r .tried) (cut nounStep3 v) × (r .row ≡ stepRow (ofEnding nounStep3) (v .text))) ⌝ }
 {
     let limit = env.limit;
-    let place = ending(
+    let f = ending(
         &env.current,
         limit,
         &tables::A_16_ROWS,
@@ -179,14 +181,20 @@ pub fn r_Suffix_Noun_Step3(env: Env) -> Tried
         &tables::A_16_CLASSES,
         &[3],
     );
-    cut_ending(env, place)
+    cut_ending(env, f)
+}
+
+// The row of the search for the last 0649, and the environment after it.
+pub struct LastLetter {
+    pub row: usize,
+    pub env: Env,
 }
 
 // A last 0649 becomes 064A. The Rust's answer, which its caller does not use, is left out. The cursor stays at the end of the text: the
 // Rust's search leaves it in front of the letter, and its caller puts it to the end.
-pub fn r_Suffix_All_alef_maqsura(env: Env) -> Env
+pub fn r_Suffix_All_alef_maqsura(env: Env) -> LastLetter
     requires { ⌜ Ready env ⌝ }
-    ensures { λ r. ⌜ ((w : Word) → Stands env (atEnd w) → Stands r (atEnd (suffixAllAlefMaqsura w))) ⌝ }
+    ensures { λ r. ⌜ ((w : Word) → Stands env (atEnd w) → Stands (r .env) (atEnd (suffixAllAlefMaqsura w)) × (r .row ≡ stepRow alefMaqsura w)) ⌝ }
 {
     let limit = env.limit;
     let f = find_among_b(
@@ -198,11 +206,13 @@ pub fn r_Suffix_All_alef_maqsura(env: Env) -> Env
         &tables::A_21_LINKS,
         &tables::A_21_CLASSES,
     );
+    let row = f.row;
     if f.class == 0 {
-        return env;
+        return LastLetter { row, env };
     }
     let mut e = env;
     e.ket = e.cursor;
     e.bra = f.cursor;
-    e.slice_from(b"\xD9\x8A")
+    let d = e.slice_from(b"\xD9\x8A");
+    LastLetter { row, env: d }
 }

@@ -1,4 +1,4 @@
-// What several steps use: a step's answer, the least number of letters by class, and the alternative that always succeeds.
+// What several steps use: the answers of steps, the least number of letters by class, and the alternative that always succeeds.
 use snowball::among::wide;
 use snowball::env::Env;
 ghost use mathlib.Core.Path.{_≡_};
@@ -12,6 +12,12 @@ ghost use Rattle.arabic.specs.Endings.{Gives, Given};
 pub struct Tried {
     pub found: bool,
     pub env: Env,
+}
+
+// The answer of a step that makes one search: the number of the row that the search found, and what the step did.
+pub struct Searched {
+    pub row: usize,
+    pub tried: Tried,
 }
 
 // The least number of letters for a class, from class 1 on; 0 for a class that has none.

@@ -23,8 +23,8 @@ fn repeat_Step1(env: Env) -> Env
     let mut e = env;
     loop {
         let t = r_Suffix_Verb_Step1(e);
-        let found = t.found;
-        let x = t.env;
+        let found = t.tried.found;
+        let x = t.tried.env;
         if !found {
             return x;
         }
@@ -40,7 +40,8 @@ fn or_Step2c(t: Tried) -> Tried
         return t;
     }
     let x = t.env;
-    r_Suffix_Verb_Step2c(x)
+    let s = r_Suffix_Verb_Step2c(x);
+    s.tried
 }
 
 // After at least one cut by Step1: Step2a, else Step2c, else nothing.
@@ -49,7 +50,7 @@ fn after_Step1(env: Env) -> Tried
     ensures { λ r. ⌜ (r .found ≡ true) × ((v : Cutting) → Ends env v → Gives r (afterStep1 v)) ⌝ }
 {
     let a = r_Suffix_Verb_Step2a(env);
-    let b = or_Step2c(a);
+    let b = or_Step2c(a.tried);
     or_nothing(b)
 }
 
@@ -59,15 +60,16 @@ pub fn verb(env: Env) -> Tried
     ensures { λ r. ⌜ ((v : Cutting) → Ends env v → Gives r (verb v)) ⌝ }
 {
     let a = r_Suffix_Verb_Step1(env);
-    let x = a.env;
-    if a.found {
+    let x = a.tried.env;
+    if a.tried.found {
         let e = repeat_Step1(x);
         return after_Step1(e);
     }
     let b = r_Suffix_Verb_Step2b(x);
-    if b.found {
-        return b;
+    if b.tried.found {
+        return b.tried;
     }
-    let y = b.env;
-    r_Suffix_Verb_Step2a(y)
+    let y = b.tried.env;
+    let c = r_Suffix_Verb_Step2a(y);
+    c.tried
 }

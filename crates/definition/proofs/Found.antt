@@ -12,7 +12,7 @@ use borrow.Author.Tests.{leb-true, leb-false}
 use Rattle.definition.specs.Words.{Word, pick, every}
 use Rattle.definition.specs.Tables.{Row, Table}
 use Rattle.definition.specs.Search.{rowAt, longer, longest, Rule, leastLetters, met, taken}
-use Rattle.definition.specs.Facts.{Longest}
+use Rattle.definition.specs.Facts.{Longest, LongestMatch}
 use Rattle.definition.proofs.Match.{both-0, both-1}
 
 -- r is a row that matches, or stands behind all rows
@@ -65,6 +65,32 @@ row-behind (k ∷ t) = row-behind t
 pub no-letters : (t : Table) → length (rowAt t (length t) .letters) ≡ 0
 no-letters [] = refl
 no-letters (k ∷ t) = no-letters t
+
+-- with no row that matches, and only then, the search ends behind all rows
+none-next : (match : Word → Bool) (k : Row) (t : Table) (b : Bool) → match (k .letters) ≡ b → longer b k t (longest match t) ≡ suc (length t) → (longest match t ≡ length t) × (b ≡ false)
+unfolding longer
+none-next match k t true e h = go (leb (length (rowAt t (longest match t) .letters)) (length (k .letters))) refl h
+  where
+    go : (c : Bool) → leb (length (rowAt t (longest match t) .letters)) (length (k .letters)) ≡ c → pick c 0 (suc (longest match t)) ≡ suc (length t) → (longest match t ≡ length t) × (true ≡ false)
+    go true l q = absurd (omega arith)
+    go false l q =
+        let r : longest match t ≡ length t = omega arith in
+        absurd (omega (arith, leb-false (length (rowAt t (longest match t) .letters)) (length (k .letters)) l, ap (λ (i : ℕ). length (rowAt t i .letters)) r, no-letters t))
+none-next match k t false e h = (omega arith, refl)
+
+none-matches : (match : Word → Bool) (t : Table) → longest match t ≡ length t → (i : ℕ) → i < length t → match (rowAt t i .letters) ≡ true → ⊥
+unfolding longest
+none-matches match [] h i l m = omega arith
+none-matches match (k ∷ t) h zero l m = false≢true (sym (none-next match k t (match (k .letters)) refl h .1) ∙ m)
+none-matches match (k ∷ t) h (suc i) l m = none-matches match t (none-next match k t (match (k .letters)) refl h .0) i (omega arith) m
+
+-- so what a search answers is the longest match
+pub longest-match : (match : Word → Bool) (t : Table) → LongestMatch match t (longest match t)
+longest-match match t = go (longest-found match t)
+  where
+    go : Found match t (longest match t) → LongestMatch match t (longest match t)
+    go (inl f) = inl (f .0, f .1, longest-longest match t)
+    go (inr f) = inr (f, none-matches match t f)
 
 met-guard : (least : List ℕ) (k n : ℕ) → met least k n ≡ true → leastLetters least k ≤ n
 unfolding met

@@ -8,6 +8,7 @@ pub mod Rows
 pub mod Match
 pub mod Found
 pub mod Unique
+pub mod StepRow
 pub mod Passed
 pub mod Triples
 pub mod Tried

@@ -1,25 +1,28 @@
 -- What is shown of the definition: the main theorems of this crate, each closed by the file that proves it. Assumes nothing.
 use mathlib.Core.Path.{_≡_}
-use mathlib.Core.Bool.{true}
+use mathlib.Core.Bool.{true, false}
 use mathlib.Core.Logic.{_⊎_}
 use mathlib.Core.List.{[], _∷_, _++_, map}
 use mathlib.Core.Option.{some}
 use Prim.Native.Nat.{ℕ, _≤_, _<_}
+use lib.Dec.{eqb}
 use lib.ListN.{length}
 use Rattle.definition.specs.Letters.{hamza, alefHamzaAbove, alef, beh, waw, yeh}
-use Rattle.definition.specs.Words.{Word, every, beginsWith, endsWith}
+use Rattle.definition.specs.Words.{Word, pick, every, beginsWith, endsWith}
 use Rattle.definition.specs.Tables.{Table, «A_0», «A_1», «A_2», «A_12», «A_21»}
 use Rattle.definition.specs.Search.{rowAt, longest, taken}
-use Rattle.definition.specs.Tries.{done, after, again}
-use Rattle.definition.specs.Kind.{Kind, DEFINED, kind}
+use Rattle.definition.specs.Tries.{done, failed, after, isDone, again}
+use Rattle.definition.specs.Kind.{Kind, OPEN, DEFINED, kind}
 use Rattle.definition.specs.Normal.{normal, normalise}
-use Rattle.definition.specs.Endings.{SuffixStep, nounStep1b, nounStep2a, nounStep2b, nounStep2c1, suffix, Cutting, uncut, cut, verb, endings, suffixAllAlefMaqsura, allEndings, maqsuraIfFailed}
+use Rattle.definition.specs.Endings.{SuffixStep, nounStep1b, nounStep2a, nounStep2b, nounStep2c1, suffix, Cutting, uncut, cutOff, cut, verb, endings, suffixAllAlefMaqsura, maqsura, allEndings, maqsuraIfFailed}
+use Rattle.definition.specs.Fronts.{PrefixStep, prefix, at, Fronting, text, change, apply}
 use Rattle.definition.specs.Finish.{last, other, finish}
 use Rattle.definition.specs.Stem.{cutting, stemOf, stem, chain, back}
 use Rattle.definition.specs.Demand3.{NoKey, NoHamza, AllOf, Demand3}
-use Rattle.definition.specs.Facts.{Longest, distinct, allTables, plainLetter, noPlainKey, replaced, Idle, AllCuts, NotNoonAlef, cutWord}
+use Rattle.definition.specs.Facts.{Longest, LongestMatch, distinct, allTables, plainLetter, noPlainKey, replaced, Idle, AllCuts, NotNoonAlef, cutWord}
 use Rattle.definition.specs.Examples.{computed, twelve, work, examples, samples, normalised, normalSamples}
-use Rattle.definition.specs.Listed.{EveryClassListed}
+use Rattle.definition.specs.Listed.{checks1, EveryClassListed}
+use Rattle.definition.specs.StepRow.{OneSearch, kindCheck, ofEnding, alefMaqsura, ofFront, searched, matchIn, endsBefore, stepRow, guardMet, rowComputed, rowSamples}
 use Rattle.definition.specs.Depends.{SameWay, OneWordTwoKinds, yehRow, OnlyDefined, DefinedCuts, OpenCuts}
 use Rattle.definition.proofs.Examples.{examples-right, depends-right}
 use Rattle.definition.proofs.Finish.{finish-joined, finish-all}
@@ -27,6 +30,7 @@ use Rattle.definition.proofs.Listed.{every-class-listed}
 use Rattle.definition.proofs.Rows.{last-rows, other-rows, maqsura-row}
 use Rattle.definition.proofs.Leave.{all-endings}
 use Rattle.definition.proofs.Unique.{rigid-front, rigid-end, longest-is, distinct-all}
+use Rattle.definition.proofs.StepRow.{row-ended, row-longest, row-only, cut-row, apply-row, kind-row, maqsura-by-row, row-samples-right}
 use Rattle.definition.proofs.Passed.{ranges-of, plain-of, key-free-word, no-plain-keys, plain-normal, plain-word}
 use Rattle.definition.proofs.Plain.{normalise-plain}
 use Rattle.definition.proofs.Twice.{normalise-joined, normalise-twice, finish-free, finish-stays, finish-twice, finish-apart, finish-with-none}
@@ -80,6 +84,39 @@ main-end w t d = longest-is (endsWith w) t d (rigid-end w)
 -- all 21 tables are such tables
 pub main-distinct : every distinct allTables ≡ true
 main-distinct = distinct-all
+
+-- ---- the row of a step
+
+-- where a step searches, its row is the longest match in its table, and no other row is
+pub main-row : (s : OneSearch) (w : Word) → endsBefore s w ≡ false
+    → LongestMatch (matchIn s w) (searched s) (stepRow s w) × ((r : ℕ) → LongestMatch (matchIn s w) (searched s) r → r ≡ stepRow s w)
+main-row s w e = (row-longest s w e, row-only s w e)
+
+-- where it ends before, it is the table's number of rows
+pub main-row-ended : (s : OneSearch) (w : Word) → endsBefore s w ≡ true → stepRow s w ≡ length (searched s)
+main-row-ended = row-ended
+
+-- A step takes this row where the guard of the row is met, and else it fails, also where a shorter row would do.
+pub main-row-cut : (s : SuffixStep) (v : Cutting)
+    → cut s v ≡ pick (guardMet (suffix s) (stepRow (ofEnding s) (v .text)) (length (v .text))) (done (cutOff v (record { step = s; row = stepRow (ofEnding s) (v .text) }))) (failed v)
+main-row-cut = cut-row
+
+pub main-row-front : (s : PrefixStep) (f : Fronting)
+    → apply s f ≡ pick (guardMet (prefix s) (stepRow (ofFront s) (f .rest)) (length (text f))) (done (change s f (at s (stepRow (ofFront s) (f .rest))))) (failed f)
+main-row-front = apply-row
+
+pub main-row-kind : (w : Word) → kind w ≡ pick (guardMet checks1 (stepRow kindCheck w) (length w)) DEFINED OPEN
+main-row-kind = kind-row
+
+-- the one row of A_21 has no guard
+pub main-row-maqsura : (v : Cutting) → isDone (maqsura v) ≡ eqb (stepRow alefMaqsura (v .text)) 0
+main-row-maqsura = maqsura-by-row
+
+-- small texts that show a wrong row
+pub main-row-samples : map rowComputed rowSamples ≡ rowSamples
+main-row-samples = row-samples-right
+
+-- ---- plain letters
 
 -- a letter is plain if it is one of 0621 to 063A or 0641 to 064A, and only then
 pub main-plain-ranges : (c : ℕ) → (plainLetter c ≡ true → ((0x621 ≤ c) × (c ≤ 0x63A)) ⊎ ((0x641 ≤ c) × (c ≤ 0x64A)))

@@ -1,5 +1,6 @@
 -- What the main theorems beside demand 3 speak of: searches and tables, plain letters, letters that rows give, and a row that cuts in no word.
 use mathlib.Core.Path.{_≡_}
+use mathlib.Core.Logic.{_⊎_}
 use mathlib.Core.Bool.{Bool, true, not}
 use mathlib.Core.List.{List, [], _∷_}
 use mathlib.Core.Option.{none}
@@ -17,6 +18,12 @@ use Rattle.definition.specs.Endings.{SuffixStep, verbStep1, verbStep2a, 
 -- no row that matches is longer than r
 abbrev pub Longest : (Word → Bool) → Table → ℕ → Type 0
 Longest match t r = (i : ℕ) → i < length t → match (rowAt t i .letters) ≡ true → length (rowAt t i .letters) ≤ length (rowAt t r .letters)
+
+-- r is the longest match: it matches, and no row that matches is longer; or no row matches, and it is the number of rows
+abbrev pub LongestMatch : (Word → Bool) → Table → ℕ → Type 0
+LongestMatch match t r =
+    ((r < length t) × (match (rowAt t r .letters) ≡ true) × Longest match t r)
+    ⊎ ((r ≡ length t) × ((i : ℕ) → i < length t → match (rowAt t i .letters) ≡ true → ⊥))
 
 -- every row has a letter, and no two rows are the same
 abbrev pub distinct : Table → Bool

@@ -14,4 +14,5 @@ pub mod Listed
 pub mod Examples
 pub mod Demand3
 pub mod Facts
+pub mod StepRow
 pub mod Depends

@@ -11,13 +11,15 @@ use borrow.Author.Tests.{eqb-true, eqb-false, eq-eqb, ne-eqb, leb-true}
 use Rattle.definition.specs.Words.{Word, both, same, beginsWith, endsWith}
 use Rattle.definition.specs.Tables.{Table}
 use Rattle.definition.specs.Search.{rowAt, longest}
+use Rattle.definition.specs.Facts.{LongestMatch}
 use Rattle.definition.proofs.Match.{by, both-0, both-1, begins-split, ends-split}
-use Rattle.definition.proofs.Found.{Found, longest-found, row-behind, no-letters}
+use Rattle.definition.proofs.Found.{Found, longest-found, row-behind, no-letters, longest-match}
 use Rattle.definition.proofs.Unique.{longest-at, longest-none}
 use Rattle.utf8.specs.Utf8.{Scalars, encode}
 use Rattle.utf8.specs.Places.{size}
 use Rattle.snowball.specs.Rows.{keys, keysBack, begins, wellFormed, rowsOf, byteTable, low, plain, AllScalars}
-use Rattle.snowball.specs.Search.{between, behind, Halved, Walked}
+use Rattle.snowball.specs.Search.{between, behind, Finds, Halved, Walked}
+use Rattle.snowball.specs.declared.among.Found.{Found as Answer}
 use Rattle.snowball.proofs.Order.{Begins, begins-true, true-begins}
 use Rattle.snowball.proofs.Table as table
 use Rattle.snowball.proofs.Read.{keys-length, keys-at, keys-back-length, keys-back-at}
@@ -217,6 +219,10 @@ module _ (ws : List (List ℕ)) (ns cs : List ℕ) (z : Sized ws ns) (e : length
         sym (z .size r (row-inside ne)) ∙ ap length (sym (row-key ne)) ∙ ap (λ (x : Table). length (rowAt x r .letters)) q
         ∙ ap length (byte-row t r) ∙ ap (λ (i : ℕ). size (rowAt t i .letters)) same-row
 
+-- ---- a row that is the search's answer is the longest match
+pub finds : {match : Word → Bool} {t : Table} {r : Answer} → r .row ≡ longest match t → r .class ≡ rowAt t (longest match t) .class → Finds match t r
+finds {match} {t} e c = record { row = e; best = subst (LongestMatch match t) (sym e) (longest-match match t); class = c }
+
 -- ---- letters below D800 are scalar values
 pub low-scalars : (w : Word) → low w ≡ true → Scalars w
 low-scalars [] e = tt
@@ -249,6 +255,9 @@ module _ (ws : List (List ℕ)) (ns js cs : List ℕ) (e : length cs ≡ length 
       ahead-same : longest (beginsWith s) (byteTable t) ≡ longest (beginsWith v) t
       ahead-same = ap (λ (x : Word). longest (beginsWith x) (byteTable t)) sv ∙ ahead-bytes v t sc (plain-scalars t p)
 
+      pub ahead-row : r ≡ longest (beginsWith v) t
+      ahead-row = same-row ws ns cs (sized-ahead ws ns js w) e (beginsWith s) r is t q (beginsWith v) ahead-same
+
       pub ahead-none : r ≡ length ns → (0 ≡ rowAt t (longest (beginsWith v) t) .class) × (size (rowAt t (longest (beginsWith v) t) .letters) ≡ 0)
       ahead-none n =
           let z = sized-ahead ws ns js w in
@@ -279,6 +288,9 @@ module _ (ws : List (List ℕ)) (ns js cs : List ℕ) (e : length cs ≡ length 
     module _ (t : Table) (q : rowsOf ws ns cs ≡ byteTable t) (p : plain t ≡ true) (v : Word) (sc : Scalars v) (sv : s ≡ encode v) where
       behind-same : longest (endsWith s) (byteTable t) ≡ longest (endsWith v) t
       behind-same = ap (λ (x : Word). longest (endsWith x) (byteTable t)) sv ∙ behind-bytes v t sc (plain-scalars t p)
+
+      pub behind-row : r ≡ longest (endsWith v) t
+      behind-row = same-row ws ns cs (sized-behind ws ns js w) e (endsWith s) r is t q (endsWith v) behind-same
 
       pub behind-none : r ≡ length ns → (0 ≡ rowAt t (longest (endsWith v) t) .class) × (size (rowAt t (longest (endsWith v) t) .letters) ≡ 0)
       behind-none n =

@@ -2,13 +2,14 @@
 use Prim.Native.Nat.{ℕ, suc, _+_, _-_, _≤_, _<_}
 use mathlib.Core.Path.{_≡_}
 use mathlib.Core.Logic.{_⊎_}
-use mathlib.Core.Bool.{true, false}
+use mathlib.Core.Bool.{Bool, true, false}
 use mathlib.Core.List.{List, [], _∷_, reverse}
 use lib.ListN.{length, take, drop, getD}
 use lib.Dec.{eqb}
 use Rattle.definition.specs.Words.{Word, pick, beginsWith, endsWith}
 use Rattle.definition.specs.Tables.{Table}
 use Rattle.definition.specs.Search.{rowAt, longest}
+use Rattle.definition.specs.Facts.{LongestMatch}
 use Rattle.utf8.specs.Places.{size}
 use Rattle.snowball.specs.Rows.{before, noLink}
 use Rattle.snowball.specs.declared.among.Found.{Found}
@@ -21,23 +22,29 @@ between t from to = take (to - from) (drop from t)
 unfoldable pub behind : List ℕ → ℕ → ℕ → List ℕ
 behind t cursor from = reverse (between t from cursor)
 
--- the answer of a forward search from the place at, over the letters w up to the limit: the longest row's class, and the cursor behind it
+-- what every search answers, where match says which rows of t match: the number of the longest match, and its class
+pub record Finds (match : Word → Bool) (t : Table) (r : Found) : Type 0 where
+  pub row : r .row ≡ longest match t
+  pub best : LongestMatch match t (r .row)
+  pub class : r .class ≡ rowAt t (longest match t) .class
+
+-- the answer of a forward search from the place at, over the letters w up to the limit: the longest row, and the cursor behind it
 pub record Ahead (t : Table) (w : Word) (at : ℕ) (r : Found) : Type 0 where
-  pub class : r .class ≡ rowAt t (longest (beginsWith w) t) .class
+  pub finds : Finds (beginsWith w) t r
   pub cursor : r .cursor ≡ at + size (rowAt t (longest (beginsWith w) t) .letters)
 
--- the answer of a backward search from the place at, over the letters w down to limit_backward: the longest row's class, and the cursor before it
+-- the answer of a backward search from the place at, over the letters w down to limit_backward: the longest row, and the cursor before it
 pub record Behind (t : Table) (w : Word) (at : ℕ) (r : Found) : Type 0 where
-  pub class : r .class ≡ rowAt t (longest (endsWith w) t) .class
+  pub finds : Finds (endsWith w) t r
   pub cursor : r .cursor ≡ at - size (rowAt t (longest (endsWith w) t) .letters)
 
 -- The same answers by bytes, whatever the bytes are: t is the table of the rows' bytes, and s the bytes that are searched.
 pub record AheadBytes (t : Table) (s : List ℕ) (at : ℕ) (r : Found) : Type 0 where
-  pub class : r .class ≡ rowAt t (longest (beginsWith s) t) .class
+  pub finds : Finds (beginsWith s) t r
   pub cursor : r .cursor ≡ at + length (rowAt t (longest (beginsWith s) t) .letters)
 
 pub record BehindBytes (t : Table) (s : List ℕ) (at : ℕ) (r : Found) : Type 0 where
-  pub class : r .class ≡ rowAt t (longest (endsWith s) t) .class
+  pub finds : Finds (endsWith s) t r
   pub cursor : r .cursor ≡ at - length (rowAt t (longest (endsWith s) t) .letters)
 
 -- ---- the parts

@@ -24,8 +24,10 @@ struct Place {
     common: usize,
 }
 
-// What a search answers: the row's class, and the cursor past the row. With no match class 0 and the old cursor.
+// What a search answers: the number, from 0, of the longest row that matches, its class, and the cursor past it. With no match the
+// number of rows, class 0 and the old cursor.
 pub struct Found {
+    pub row: usize,
     pub class: u8,
     pub cursor: usize,
 }
@@ -310,11 +312,13 @@ pub fn find_among(
     let row = row_among(text, cursor, limit, rows, lens, links);
     if row == lens.len() {
         return Found {
+            row,
             class: 0,
-            cursor: cursor,
+            cursor,
         };
     }
     Found {
+        row,
         class: classes[row],
         cursor: cursor + wide(lens[row]),
     }
@@ -340,11 +344,13 @@ pub fn find_among_b(
     let row = row_among_b(text, cursor, limit_backward, rows, lens, links);
     if row == lens.len() {
         return Found {
+            row,
             class: 0,
-            cursor: cursor,
+            cursor,
         };
     }
     Found {
+        row,
         class: classes[row],
         cursor: cursor - wide(lens[row]),
     }

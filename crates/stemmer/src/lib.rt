@@ -205,7 +205,8 @@ pub fn kind(word: &[u8]) -> KindAnswer
             kind: Kind::OPEN,
         },
         Checked::Accepted => {
-            let kind = kind_of(word, word.len());
+            let k = kind_of(word, word.len());
+            let kind = k.kind;
             KindAnswer { code: 0, kind }
         }
     }

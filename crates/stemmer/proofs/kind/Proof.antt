@@ -41,9 +41,10 @@ returns-2 c =
 
 returns-3 : tie.Need-returns-3
 returns-3 c =
-    let w = c .before .before .before .before .before .args .word .now in
-    let e = sym (c .before .before .before .check-word .ensures) ∙ c .before .enum-told3 .given .1 in
-    let k = c .kind-of .ensures (letters w) (scalars w e) (take-length w ∙ spelling w e) in
+    let f = c .before in
+    let w = f .before .before .before .before .before .args .word .now in
+    let e = sym (f .before .before .before .check-word .ensures) ∙ f .before .enum-told3 .given .1 in
+    let k = f .kind-of .ensures (letters w) (scalars w e) (take-length w ∙ spelling w e) .0 in
     (λ i. record { code = 0; kind = k i }) ∙ kind-after w Accepted e
 
 pub kind-spec : {M : Type 1} → statement M

@@ -40,6 +40,7 @@ use denote.Triple.Clauses.{ensured, lasts}
 use denote.Exit.{yes}
 use Rattle.definition.specs.Words as Words
 use Rattle.definition.specs.Fronts.{Fronting, prefixStep4Verb, apply}
+use Rattle.definition.specs.StepRow.{ofFront, stepRow}
 use Rattle.snowball.specs.declared.env.Env.{Env}
 use Rattle.snowball.proofs.env.Env as E
 use Rattle.snowball.proofs.env.Env.Laws as E′
@@ -50,8 +51,8 @@ use Rattle.arabic.proofs.context.Context as T
 use Rattle.arabic.proofs.context.Context.Laws as T′
 use Rattle.arabic.proofs.context.Flagged as S
 use Rattle.arabic.proofs.context.Flagged.Laws as S′
-use Rattle.arabic.proofs.tried.Tried as D
-use Rattle.arabic.proofs.tried.Tried.Laws as D′
+use Rattle.arabic.proofs.tried.Searched as D
+use Rattle.arabic.proofs.tried.Searched.Laws as D′
 use Rattle.arabic.proofs.context.flagged_Prefix_Step4_Verb as step
 use Rattle.arabic.proofs.context.flagged_Prefix_Step4_Verb.Symbol as step-def
 use Rattle.arabic.proofs.context.flagged_Prefix_Step4_Verb.Symbol.{name as #step}
@@ -84,7 +85,7 @@ module _ {M : Type 1} (𝓤 : URA M) (H : Heap 𝓤) (A : Atoms 𝓤) (W : Given
 
   -- what the step on values ensures
   abbrev Told : Flagged → Type 0
-  Told r = ((w : Fronting) → Fronts d w → GivesFront (r .tried) (apply prefixStep4Verb w)) × (r .verb ≡ Words.pick (r .tried .found) true (h .«b_is_verb»)) × (r .noun ≡ Words.pick (r .tried .found) false (h .«b_is_noun»))
+  Told r = ((w : Fronting) → Fronts d w → GivesFront (r .searched .tried) (apply prefixStep4Verb w) × (r .searched .row ≡ stepRow (ofFront prefixStep4Verb) (w .rest))) × (r .verb ≡ Words.pick (r .searched .tried .found) true (h .«b_is_verb»)) × (r .noun ≡ Words.pick (r .searched .tried .found) false (h .«b_is_noun»))
 
   -- the context with the flags of r, and its machine value
   abbrev after : Flagged → Context
@@ -101,7 +102,7 @@ module _ {M : Type 1} (𝓤 : URA M) (H : Heap 𝓤) (A : Atoms 𝓤) (W : Given
 
   -- the machine value of the answer
   abbrev answer : Flagged → Val
-  answer r = only (LL.vals D.the-type D′.the-laws (r .tried))
+  answer r = only (LL.vals D.the-type D′.the-laws (r .searched))
 
   abbrev Post : Val → SProp 𝓤
   Post = walkOf 𝓤 H A f.ended stayed (f.clauses 𝓤 H A at-mem run) .post (((κ, tt), (q, tt), tt, x, at), tt)
@@ -125,10 +126,10 @@ module _ {M : Type 1} (𝓤 : URA M) (H : Heap 𝓤) (A : Atoms 𝓤) (W : Given
   said : (r : Flagged) → ent 𝓤 (ensured 𝓤 H A step.ended (step.clauses 𝓤 H A at-mem run) tt to-args tt r) (fact 𝓤 (Told r))
   said r = exE 𝓤 _ (λ ws. snd∗ 𝓤 (sem 𝓤 H A (lasts step.ended tt to-args ws)) (fact 𝓤 (Told r)))
 
-  exits : (r : Flagged) → Told r → ent 𝓤 (⋆ 𝓤 H A (‵ (fobs γ (T.the-row .coded .code (after r))) ∷ ‵ (fbor κ (Body (mem T.the-row) b o γ)) ∷ ‵ (flft κ q) ∷ ‵ (D.the-row .own (r .tried) (answer r ∷ [])) ∷ [])) (Post (answer r))
+  exits : (r : Flagged) → Told r → ent 𝓤 (⋆ 𝓤 H A (‵ (fobs γ (T.the-row .coded .code (after r))) ∷ ‵ (fbor κ (Body (mem T.the-row) b o γ)) ∷ ‵ (flft κ q) ∷ ‵ (D.the-row .own (r .searched) (answer r ∷ [])) ∷ [])) (Post (answer r))
   exits r e =
-      qed W (‵ (fobs γ (T.the-row .coded .code (after r))) ∷ ‵ (fbor κ (Body (mem T.the-row) b o γ)) ∷ ‵ (flft κ q) ∷ ‵ (D.the-row .own (r .tried) (answer r ∷ [])) ∷ []) ∵
-      suffices ! _ (ends-at 𝓤 H A f.ended stayed (f.clauses 𝓤 H A at-mem run) W (((κ, tt), (q, tt), tt, x, at), tt) (answer r) (r .tried) (tt, (after r, tt)) (tt, (tt, tt))) $
+      qed W (‵ (fobs γ (T.the-row .coded .code (after r))) ∷ ‵ (fbor κ (Body (mem T.the-row) b o γ)) ∷ ‵ (flft κ q) ∷ ‵ (D.the-row .own (r .searched) (answer r ∷ [])) ∷ []) ∵
+      suffices ! _ (ends-at 𝓤 H A f.ended stayed (f.clauses 𝓤 H A at-mem run) W (((κ, tt), (q, tt), tt, x, at), tt) (answer r) (r .searched) (tt, (after r, tt)) (tt, (tt, tt))) $
       says ! (e .0, λ i. record { «b_is_defined» = h .«b_is_defined»; «b_is_verb» = e .1 i; «b_is_noun» = e .2 i; «i_word_len» = h .«i_word_len» }) $
       nothing ! $ move ! (3 ∷ 0 ∷ []) $ join ! $ frame ! $ feqI ! (List Val) (vptr b o ∷ []) (vptr b o ∷ []) refl $ fjoin3 ! $
       nothing ! $ move ! (1 ∷ 0 ∷ []) $ fjoin ! $ owned ! E.the-row (Is E.the-row) ((LL.makes E.the-type E′.the-plain) 𝓤 H A) d _ ok $ fjoin ! $ frame ! $ done !
@@ -162,9 +163,9 @@ module _ {M : Type 1} (𝓤 : URA M) (H : Heap 𝓤) (A : Atoms 𝓤) (W : Given
         assigns ! (of-opd ! (load ! (from ! (fld ! refl (stop !))) (look-in ! 10 (sub ! 1 refl (whole !))))) (from ! (hop ! (look ! 12 refl) (fld ! refl (stop !)))) (store-in ! 1 (sub ! 1 refl (whole !)) (tt, tt)) $
         assigns ! (of-opd ! (load ! (from ! (fld ! refl (stop !))) (look-in ! 10 (sub ! 2 refl (whole !))))) (from ! (hop ! (look ! 12 refl) (fld ! refl (stop !)))) (store-in ! 1 (sub ! 2 refl (whole !)) (tt, tt)) $
         peeks ! S.the-row (Is S.the-row) (shows 𝓤 H A S.the-row) r (LL.vals S.the-type S′.the-laws r) (λ has.
-        assigns ! (of-opd ! (load ! (from ! (fld ! refl (stop !))) (look-in ! 10 (sub ! 0 refl (whole !))))) (from ! (stop !)) (init ! 16 refl (LL.lawful D.the-type D′.the-laws 𝓤 H A W .typed (r .tried) _ (LL.owed S.the-type S′.the-laws r _ has .0) .0)) $
+        assigns ! (of-opd ! (load ! (from ! (fld ! refl (stop !))) (look-in ! 10 (sub ! 0 refl (whole !))))) (from ! (stop !)) (init ! 16 refl (LL.lawful D.the-type D′.the-laws 𝓤 H A W .typed (r .searched) _ (LL.owed S.the-type S′.the-laws r _ has .0) .0)) $
         -- the answer is owned by itself, and the borrow is closed at the new flags
-        drop ! $ owned ! D.the-row (Is D.the-row) ((LL.makes D.the-type D′.the-plain) 𝓤 H A) (r .tried) _ (LL.owed S.the-type S′.the-laws r _ has .0) $
+        drop ! $ owned ! D.the-row (Is D.the-row) ((LL.makes D.the-type D′.the-plain) 𝓤 H A) (r .searched) _ (LL.owed S.the-type S′.the-laws r _ has .0) $
         move ! (2 ∷ []) $ drop ! $ owned ! T.the-row (Is T.the-row) ((LL.makes T.the-type T′.the-plain) 𝓤 H A) (after r) _ (made r was) $ move ! (2 ∷ 0 ∷ 3 ∷ 4 ∷ 5 ∷ []) $ closes ! tt T.the-row (after r) (mach r ∷ []) b o $
         -- [obs; the borrow; the token; what the answer owns; _5; …; _4; …; _3; …; _2; …; _1; …; _0; …; …]
         returns ! (look ! 14 refl) $ forget ! 4 refl $ forget ! 6 refl $ forget ! 8 refl $ forget ! 10 refl $ forget ! 12 refl $ forget ! 14 refl $

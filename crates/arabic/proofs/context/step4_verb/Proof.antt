@@ -36,6 +36,7 @@ use denote.Triple.Walked.{says, needs, Stays, stay-none, walkOf, AllGo, goes-non
 use denote.Triple.Clauses.{ensured, lasts}
 use denote.Exit.{yes}
 use Rattle.definition.specs.Fronts.{Fronting, prefixStep4Verb, apply}
+use Rattle.definition.specs.StepRow.{ofFront, stepRow}
 use Rattle.snowball.specs.declared.env.Env.{Env}
 use Rattle.snowball.proofs.env.Env as E
 use Rattle.snowball.proofs.env.Env.Laws as E′
@@ -43,14 +44,14 @@ use Rattle.arabic.specs.Contexts.{madeVerb}
 use Rattle.arabic.specs.Fronts.{Fronts, ReadyFront, GivesFront}
 use Rattle.arabic.specs.declared.context.Context.{Context}
 use Rattle.arabic.specs.declared.context.Stepped.{Stepped}
-use Rattle.arabic.specs.declared.tried.Tried.{Tried}
+use Rattle.arabic.specs.declared.tried.Searched.{Searched}
 use Rattle.arabic.proofs.Lending.{mach, lies-in, lies-out}
 use Rattle.arabic.proofs.context.Context as T
 use Rattle.arabic.proofs.context.Context.Laws as T′
 use Rattle.arabic.proofs.context.Stepped as S
 use Rattle.arabic.proofs.context.Stepped.Laws as S′
-use Rattle.arabic.proofs.tried.Tried as D
-use Rattle.arabic.proofs.tried.Tried.Laws as D′
+use Rattle.arabic.proofs.tried.Searched as D
+use Rattle.arabic.proofs.tried.Searched.Laws as D′
 use Rattle.arabic.proofs.context.r_Prefix_Step4_Verb as verb
 use Rattle.arabic.proofs.context.r_Prefix_Step4_Verb.Symbol as verb-def
 use Rattle.arabic.proofs.context.r_Prefix_Step4_Verb.Symbol.{name as #verb}
@@ -82,14 +83,14 @@ module _ {M : Type 1} (𝓤 : URA M) (H : Heap 𝓤) (A : Atoms 𝓤) (W : Given
   at = (v ∷ [], (mach h ∷ [], tt))
 
   -- what is ensured of the answer and the context
-  abbrev Told : Tried → Context → Type 0
-  Told t c = ((w : Fronting) → Fronts d w → GivesFront t (apply prefixStep4Verb w)) × (c ≡ madeVerb h (t .found))
+  abbrev Told : Searched → Context → Type 0
+  Told t c = ((w : Fronting) → Fronts d w → GivesFront (t .tried) (apply prefixStep4Verb w) × (t .row ≡ stepRow (ofFront prefixStep4Verb) (w .rest))) × (c ≡ madeVerb h (t .tried .found))
 
-  abbrev result : Tried → Context → Stepped
-  result t c = record { tried = t; context = c }
+  abbrev result : Searched → Context → Stepped
+  result t c = record { searched = t; context = c }
 
   -- its machine value
-  abbrev answer : Tried → Context → Val
+  abbrev answer : Searched → Context → Val
   answer t c = vstruct (vcons (only (LL.vals D.the-type D′.the-laws t)) (vcons (mach c) vnil))
 
   abbrev Post : Val → SProp 𝓤
@@ -115,7 +116,7 @@ module _ {M : Type 1} (𝓤 : URA M) (H : Heap 𝓤) (A : Atoms 𝓤) (W : Given
   asked ν l δ =
       qed W ((‵ (flft (ν ∷ []) fullShare) ⊛ ‵ ftrue) ∷ ‵ (owns (E.the-row ∷ MutRef (named 0) (ν ∷ []) T.the-row ∷ []) (ours l δ) (passed l)) ∷ []) ∵ says ! ready $ frame ! $ done !
 
-  exits : (t : Tried) (c : Context) → Told t c → ent 𝓤 (⋆ 𝓤 H A (‵ (S.the-row .own (result t c) (answer t c ∷ [])) ∷ ‵ ftrue ∷ [])) (Post (answer t c))
+  exits : (t : Searched) (c : Context) → Told t c → ent 𝓤 (⋆ 𝓤 H A (‵ (S.the-row .own (result t c) (answer t c ∷ [])) ∷ ‵ ftrue ∷ [])) (Post (answer t c))
   exits t c e =
       qed W (‵ (S.the-row .own (result t c) (answer t c ∷ [])) ∷ ‵ ftrue ∷ []) ∵
       suffices ! _ (ends-at 𝓤 H A f.ended stayed (f.clauses 𝓤 H A at-mem run) W ((tt, tt, tt, x, at), tt) (answer t c) (result t c) (tt, (tt, tt)) (tt, (tt, tt))) $ says ! e $
@@ -141,7 +142,7 @@ module _ {M : Type 1} (𝓤 : URA M) (H : Heap 𝓤) (A : Atoms 𝓤) (W : Given
         use2 W (raw (Verb 𝓤 H A at-mem run .pre (to ν l₃ δ))) (asked ν l₃ δ) $
         -- [what the call asks; the lender's part; _6; …; _5; …; _4; …; …(_3); _2; …; _1; …; _0; …]
         calls-at ! fm (Verb 𝓤 H A at-mem run) known (to ν l₃ δ) (and-then ! (load ! (from ! (stop !)) (look ! 11 refl)) (and-then ! (load ! (from ! (stop !)) (look ! 4 refl)) (no-more !))) (λ u.
-        use1 W (later (some (λ (t : Tried). ((‵ (flft (ν ∷ []) fullShare) ⊛ ‵ ftrue) ⊛ ‵ (D.the-row .own t (u ∷ []))) ⊛ raw (ensured 𝓤 H A verb.ended (verb.clauses 𝓤 H A at-mem run) (ν ∷ [], tt) (ours l₃ δ) tt t)))) (id⊢ 𝓤 _) $ await ! tt $ pick ! (λ t.
+        use1 W (later (some (λ (t : Searched). ((‵ (flft (ν ∷ []) fullShare) ⊛ ‵ ftrue) ⊛ ‵ (D.the-row .own t (u ∷ []))) ⊛ raw (ensured 𝓤 H A verb.ended (verb.clauses 𝓤 H A at-mem run) (ν ∷ [], tt) (ours l₃ δ) tt t)))) (id⊢ 𝓤 _) $ await ! tt $ pick ! (λ t.
         -- what the step ensures, at some last context
         split ! $ move ! (1 ∷ []) $ use1 W (some (λ (zs : Unit {0} × (Context × Unit {0})). ‵ (lasts verb.ended (ν ∷ [], tt) (ours l₃ δ) zs) ⊛ raw (fact 𝓤 (Told t (zs .1 .0))))) (id⊢ 𝓤 _) $ pick ! (λ zs.
         split ! $ move ! (1 ∷ []) $ heard ! (Told t (zs .1 .0)) (λ e. fsplit ! $ drop ! $ fsplit ! $ move ! (1 ∷ []) $ drop ! $

@@ -24,8 +24,8 @@ abbrev rest1 : Kind → List (Step Cutting)
 rest1 k = byStep1b ∷ rest2 k
 
 -- what the environment stands for behind each alternative
-ready1 : (c : tie.After-r-Suffix-Noun-Step2c2) → Ready (c .r-Suffix-Noun-Step2c2 .result .env)
-ready1 c = ready (c .r-Suffix-Noun-Step2c2 .result) (_, c .r-Suffix-Noun-Step2c2 .ensures (c .before .pre .0) (c .before .pre .1))
+ready1 : (c : tie.After-r-Suffix-Noun-Step2c2) → Ready (c .r-Suffix-Noun-Step2c2 .result .tried .env)
+ready1 c = ready (c .r-Suffix-Noun-Step2c2 .result .tried) (_, c .r-Suffix-Noun-Step2c2 .ensures (c .before .pre .0) (c .before .pre .1) .0)
 
 ready2 : (c : tie.After-by-Step1b) → Ready (c .by-Step1b .result .env)
 ready2 c = let r = ready1 (c .before .before .before) in ready (c .by-Step1b .result) (_, c .by-Step1b .ensures (r .0) (r .1))
@@ -34,12 +34,12 @@ ready3 : (c : tie.After-open-Step2a) → Ready (c .open-Step2a .result .env)
 ready3 c = let r = ready2 (c .before .before .before) in ready (c .open-Step2a .result) (_, c .open-Step2a .ensures (r .0) (r .1))
 
 -- r is the answer of all alternatives where it is that of the later ones, and the earlier ones have failed
-past1 : (c : tie.After-x) (r : Tried) → ((u : Cutting) → Ends (c .before .before .r-Suffix-Noun-Step2c2 .result .env) u → Gives r (firstOf (rest1 (kindOf (c .before .before .before .args .b-is-defined))) u))
+past1 : (c : tie.After-x) (r : Tried) → ((u : Cutting) → Ends (c .before .before .r-Suffix-Noun-Step2c2 .result .tried .env) u → Gives r (firstOf (rest1 (kindOf (c .before .before .before .args .b-is-defined))) u))
     → (v : Cutting) → Ends (c .before .before .before .args .env) v → Gives r (nounFirst (kindOf (c .before .before .before .args .b-is-defined)) v)
 unfolding nounFirst firstOf
 past1 c r f v st =
     let a = c .before .before in
-    or-no (a .r-Suffix-Noun-Step2c2 .result) r (firstOf (rest1 (kindOf (a .before .args .b-is-defined)))) (c .before .if1 .left) f (cut nounStep2c2 v) (a .r-Suffix-Noun-Step2c2 .ensures v st)
+    or-no (a .r-Suffix-Noun-Step2c2 .result .tried) r (firstOf (rest1 (kindOf (a .before .args .b-is-defined)))) (c .before .if1 .left) f (cut nounStep2c2 v) (a .r-Suffix-Noun-Step2c2 .ensures v st .0)
 
 past2 : (c : tie.After-y) (r : Tried) → ((u : Cutting) → Ends (c .before .before .by-Step1b .result .env) u → Gives r (firstOf (rest2 (kindOf (c .before .before .before .before .before .before .args .b-is-defined))) u))
     → (v : Cutting) → Ends (c .before .before .before .before .before .before .args .env) v → Gives r (nounFirst (kindOf (c .before .before .before .before .before .before .args .b-is-defined)) v)
@@ -64,9 +64,9 @@ r-Suffix-Noun-Step2c2-requires c κs = search needs
 returns : tie.Need-returns
 unfolding nounFirst firstOf
 returns c =
-    let a = c .before in
+    let a = c .before .before in
     let k = kindOf (a .before .args .b-is-defined) in
-    (c .if1 .taken, λ v st. or-yes (a .r-Suffix-Noun-Step2c2 .result) (firstOf (rest1 k)) (c .if1 .taken) (cut nounStep2c2 v) (a .r-Suffix-Noun-Step2c2 .ensures v st))
+    (c .before .if1 .taken, λ v st. or-yes (a .r-Suffix-Noun-Step2c2 .result .tried) (firstOf (rest1 k)) (c .before .if1 .taken) (cut nounStep2c2 v) (a .r-Suffix-Noun-Step2c2 .ensures v st .0))
 
 by-Step1b-requires : tie.Need-by-Step1b-requires
 by-Step1b-requires c κs = ready1 (c .before .before)
@@ -92,7 +92,7 @@ r-Suffix-Noun-Step2b-requires : tie.Need-r-Suffix-Noun-Step2b-requires
 r-Suffix-Noun-Step2b-requires c κs = ready3 (c .before .before)
 
 or-nothing-requires : tie.Need-or-nothing-requires
-or-nothing-requires c κs = let r = ready3 (c .before .before .before) in (_, c .r-Suffix-Noun-Step2b .ensures (r .0) (r .1))
+or-nothing-requires c κs = let r = ready3 (c .before .before .before) in (_, c .r-Suffix-Noun-Step2b .ensures (r .0) (r .1) .0)
 
 returns-4 : tie.Need-returns-4
 unfolding firstOf
@@ -100,7 +100,7 @@ returns-4 c =
     let n = c .or-nothing in (
       n .ensures .0,
       past3 (c .before .before) (n .result)
-          (λ u s. subst (Gives (n .result)) (last-nothing (cut nounStep2b u)) (n .ensures .1 (cut nounStep2b u) (c .before .r-Suffix-Noun-Step2b .ensures u s))),
+          (λ u s. subst (Gives (n .result)) (last-nothing (cut nounStep2b u)) (n .ensures .1 (cut nounStep2b u) (c .before .r-Suffix-Noun-Step2b .ensures u s .0))),
     )
 
 pub first-cut-spec : {M : Type 1} → statement M

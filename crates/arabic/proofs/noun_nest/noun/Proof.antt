@@ -19,10 +19,10 @@ r-Suffix-Noun-Step3-requires c κs =
 
 returns : tie.Need-returns
 returns c =
-    let f = c .before .before in
-    let r = c .r-Suffix-Noun-Step3 in
-    λ v st. subst (Gives (r .result)) (noun-is (kindOf (f .before .args .b-is-defined)) v)
-    (then-yes (f .first-cut .result) (r .result) (cut nounStep3) (f .first-cut .ensures .0) _ (f .first-cut .ensures .1 v st) (λ u e s. r .ensures u s))
+    let f = c .before .before .before in
+    let r = c .before .r-Suffix-Noun-Step3 in
+    λ v st. subst (Gives (r .result .tried)) (noun-is (kindOf (f .before .args .b-is-defined)) v)
+    (then-yes (f .first-cut .result) (r .result .tried) (cut nounStep3) (f .first-cut .ensures .0) _ (f .first-cut .ensures .1 v st) (λ u e s. r .ensures u s .0))
 
 pub noun-spec : {M : Type 1} → statement M
 noun-spec = tie.close (tie.spec first-cut-requires r-Suffix-Noun-Step3-requires returns)

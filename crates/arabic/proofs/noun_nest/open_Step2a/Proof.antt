@@ -19,7 +19,7 @@ r-Suffix-Noun-Step2a-requires c κs = search needs
 
 returns-2 : tie.Need-returns-2
 returns-2 c =
-    λ v st. subst (λ (b : Bool). Gives (c .r-Suffix-Noun-Step2a .result) (ifOpen (kindOf b) (cut nounStep2a) v)) (sym (c .before .if1 .left)) (c .r-Suffix-Noun-Step2a .ensures v st)
+    λ v st. subst (λ (b : Bool). Gives (c .before .r-Suffix-Noun-Step2a .result .tried) (ifOpen (kindOf b) (cut nounStep2a) v)) (sym (c .before .before .if1 .left)) (c .before .r-Suffix-Noun-Step2a .ensures v st .0)
 
 pub open-Step2a-spec : {M : Type 1} → statement M
 open-Step2a-spec = tie.close (tie.spec returns r-Suffix-Noun-Step2a-requires returns-2)

@@ -12,7 +12,7 @@ r-Suffix-Noun-Step2b-requires : tie.Need-r-Suffix-Noun-Step2b-requires
 r-Suffix-Noun-Step2b-requires c κs = search needs
 
 returns-2 : tie.Need-returns-2
-returns-2 c = or-no (c .before .before .before .args .t) (c .r-Suffix-Noun-Step2b .result) (cut nounStep2b) (c .before .before .if1 .left) (c .r-Suffix-Noun-Step2b .ensures)
+returns-2 c = or-no (c .before .before .before .before .args .t) (c .before .r-Suffix-Noun-Step2b .result .tried) (cut nounStep2b) (c .before .before .before .if1 .left) (λ v st. c .before .r-Suffix-Noun-Step2b .ensures v st .0)
 
 pub or-Step2b-spec : {M : Type 1} → statement M
 or-Step2b-spec = tie.close (tie.spec returns r-Suffix-Noun-Step2b-requires returns-2)

@@ -12,7 +12,7 @@ r-Suffix-Noun-Step2c1-requires : tie.Need-r-Suffix-Noun-Step2c1-requires
 r-Suffix-Noun-Step2c1-requires c κs = search needs
 
 returns-2 : tie.Need-returns-2
-returns-2 c = or-no (c .before .before .before .args .t) (c .r-Suffix-Noun-Step2c1 .result) (cut nounStep2c1) (c .before .before .if1 .left) (c .r-Suffix-Noun-Step2c1 .ensures)
+returns-2 c = or-no (c .before .before .before .before .args .t) (c .before .r-Suffix-Noun-Step2c1 .result .tried) (cut nounStep2c1) (c .before .before .before .if1 .left) (λ v st. c .before .r-Suffix-Noun-Step2c1 .ensures v st .0)
 
 pub or-Step2c1-spec : {M : Type 1} → statement M
 or-Step2c1-spec = tie.close (tie.spec returns r-Suffix-Noun-Step2c1-requires returns-2)

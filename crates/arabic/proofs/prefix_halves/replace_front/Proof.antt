@@ -5,7 +5,7 @@ use Prim.Native.Nat.{ℕ, _+_, _-_, _≤_}
 use native.Mathlib.Omega.{arith}
 use lib.ListN.{length, take, getD}
 use borrow.Author.Needs.{needs}
-use Rattle.arabic.proofs.Fronted.{not-replaced, in-lens, in-news, in-new, can-slice, is-replaced}
+use Rattle.arabic.proofs.Fronted.{row-is, not-replaced, in-lens, in-news, in-new, can-slice, is-replaced}
 use Rattle.arabic.proofs.prefix_halves.replace_front.Statement.{statement}
 use Rattle.arabic.proofs.prefix_halves.replace_front.Tie as tie
 use Rattle.snowball.specs.Stands.{workSize}
@@ -16,7 +16,7 @@ none-less n = omega arith
 returns : tie.Need-returns
 returns c =
     let a = c .before .before .args in
-    λ s w st tk ps nb ch. not-replaced s w (a .env) st (a .f) tk nb (c .if1 .taken)
+    λ s w st tk ps nb ch. (not-replaced s w (a .env) st (a .f) tk nb (c .if1 .taken), row-is s w (a .env) st (a .f) tk nb)
 
 sub-wide : tie.Need-sub-wide
 sub-wide c = search needs
@@ -78,9 +78,10 @@ returns-2 c =
     let d = v .before in
     let a = d .before .before .args in
     λ s w st tk ps nb ch.
-    is-replaced s w (a .env) st (a .f) tk (d .if1 .left) (a .news .now) (a .lens .now) ps (v .wide .result) (v .wide .ensures) (v2 .wide2 .result) (v2 .wide2 .ensures) nb ch
+    let g = is-replaced s w (a .env) st (a .f) tk (d .if1 .left) (a .news .now) (a .lens .now) ps (v .wide .result) (v .wide .ensures) (v2 .wide2 .result) (v2 .wide2 .ensures) nb ch
     (c .slice-from .result)
-    (λ cs sc e. c .slice-from .ensures .1 cs sc (ap (λ (n : ℕ). take n (getD (a .news .now) (v .wide .result) [])) (sym (none-less (v2 .wide2 .result))) ∙ e))
+    (λ cs sc e. c .slice-from .ensures .1 cs sc (ap (λ (n : ℕ). take n (getD (a .news .now) (v .wide .result) [])) (sym (none-less (v2 .wide2 .result))) ∙ e)) in
+    (g, row-is s w (a .env) st (a .f) tk nb)
 
 pub replace-front-spec : {M : Type 1} → statement M
 replace-front-spec =

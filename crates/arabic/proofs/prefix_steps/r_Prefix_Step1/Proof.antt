@@ -49,7 +49,7 @@ replace-front-requires c κs =
     (prefixStep1, (w, (st, (f .front-row .ensures prefixStep1 refl refl refl (text w) (w .rest) (rest-scalars x w st) (st .bytes) (rest-bytes x w st), (refl, refl)))))
 
 returns : tie.Need-returns
-unfolding prefix replacements notAt change «A_4» encode encode1
+unfolding started prefix replacements notAt change «A_4» encode encode1
 returns c =
     let f = c .before .before .before in
     let x = f .before .before .before .before .before .before .before .before .before .args .t1 in

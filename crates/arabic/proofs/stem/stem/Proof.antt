@@ -23,14 +23,14 @@ stem-of-requires : tie.Need-stem-of-requires
 stem-of-requires c κs =
     let p = c .before .before .before .before .pre in
     let e = c .checked .ensures (p .0 .0) (p .0 .1 .scalars) (p .0 .1 .bytes) in
-    (p .0, p .1, subst (λ (x : Context). kindByVerb (x .«b_is_verb») ≡ kindOf (x .«b_is_defined»)) (sym e) (one-kind (kind (p .0 .0))))
+    (p .0, p .1, subst (λ (x : Context). kindByVerb (x .«b_is_verb») ≡ kindOf (x .«b_is_defined»)) (sym (e .0)) (one-kind (kind (p .0 .0))))
 
 returns : tie.Need-returns
 unfolding stem stemOf fronting
 returns c =
     let k = c .before .checked in
     λ w st.
-    let e : kindOf (k .result .«b_is_defined») ≡ kind w = ap (λ (x : Context). kindOf (x .«b_is_defined»)) (k .ensures w (st .scalars) (st .bytes)) ∙ kind-back (kind w) in
+    let e : kindOf (k .result .context .«b_is_defined») ≡ kind w = ap (λ (x : Context). kindOf (x .«b_is_defined»)) (k .ensures w (st .scalars) (st .bytes) .0) ∙ kind-back (kind w) in
     subst (λ (x : Kind). Stands (c .stem-of .result) (started (stemOf x (normalise w)))) e (c .stem-of .ensures w st)
 
 pub stem-spec : {M : Type 1} → statement M

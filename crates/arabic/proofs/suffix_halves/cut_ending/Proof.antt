@@ -6,7 +6,7 @@ use Rattle.arabic.proofs.suffix_halves.cut_ending.Tie as tie
 returns : tie.Need-returns
 returns c =
     let a = c .before .args in
-    λ s v st at. cuts s v (a .env) st (a .place) at _ (λ u h. h)
+    λ s v st tk. (cuts s v (a .env) st (a .f .place) (tk .place) _ (λ u h. h), tk .row)
 
 pub cut-ending-spec : {M : Type 1} → statement M
 cut-ending-spec = tie.close (tie.spec returns)

@@ -35,7 +35,8 @@ r-Suffix-All-alef-maqsura-requires c κs =
 
 returns-2 : tie.Need-returns-2
 returns-2 c =
-    λ w st. maqsura-failed (c .before .before .before .or-noun .result) (c .r-Suffix-All-alef-maqsura .result) _ (both (c .before .before .before) w st) (c .before .if1 .left) (c .r-Suffix-All-alef-maqsura .ensures)
+    let m = c .before in
+    λ w st. maqsura-failed (m .before .before .before .or-noun .result) (m .r-Suffix-All-alef-maqsura .result .env) _ (both (m .before .before .before) w st) (m .before .if1 .left) (λ v e. m .r-Suffix-All-alef-maqsura .ensures v e .0)
 
 pub suffixes-spec : {M : Type 1} → statement M
 suffixes-spec = tie.close (tie.spec open-verb-requires or-noun-requires returns r-Suffix-All-alef-maqsura-requires returns-2)

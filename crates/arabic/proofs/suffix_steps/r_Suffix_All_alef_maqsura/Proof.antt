@@ -34,7 +34,9 @@ unfolding «A_21» encode encode1
 returns c =
     let f = c .before .before in
     let x = f .before .before .before .before .before .before .before .before .args .t1 in
-    λ w st. not-last x w st (f .find-among-b .result) (f .find-among-b .ensures .1 «A_21» refl refl w (st .scalars) (from-start (x .current) (x .limit) ∙ st .bytes)) (c .if1 .taken)
+    λ w st.
+    let b = f .find-among-b .ensures .1 «A_21» refl refl w (st .scalars) (from-start (x .current) (x .limit) ∙ st .bytes) in
+    (not-last x w st (f .find-among-b .result) b (c .if1 .taken), b .finds .row)
 
 slice-aggregate-slice-from : tie.Need-slice-aggregate-slice-from
 slice-aggregate-slice-from c = search needs
@@ -59,8 +61,9 @@ returns-2 c =
     let e = c .before .before in
     let f = e .before .before in
     let x = f .before .before .before .before .before .before .before .before .args .t1 in
-    λ w st. is-last x w st (f .find-among-b .result) (f .find-among-b .ensures .1 «A_21» refl refl w (st .scalars) (from-start (x .current) (x .limit) ∙ st .bytes)) (e .if1 .left)
-    (c .slice-from .result) (c .slice-from .ensures .1 (yeh ∷ []) (low-scalars (yeh ∷ []) refl) refl)
+    λ w st.
+    let b = f .find-among-b .ensures .1 «A_21» refl refl w (st .scalars) (from-start (x .current) (x .limit) ∙ st .bytes) in
+    (is-last x w st (f .find-among-b .result) b (e .if1 .left) (c .slice-from .result) (c .slice-from .ensures .1 (yeh ∷ []) (low-scalars (yeh ∷ []) refl) refl), b .finds .row)
 
 pub r-Suffix-All-alef-maqsura-spec : {M : Type 1} → statement M
 r-Suffix-All-alef-maqsura-spec =

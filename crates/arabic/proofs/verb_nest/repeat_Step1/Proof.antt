@@ -22,19 +22,19 @@ returns : tie.Need-returns Inv-loop μ-loop
 returns c =
     let l = c .before .before .before in
     let t = c .before .before .r-Suffix-Verb-Step1 in
-    turn-end verbStep1 (l .loop .e) (t .result) (t .ensures) (not-true (t .result .found) (c .if1 .taken)) (l .before .args .env) (l .loop .inv .1)
+    turn-end verbStep1 (l .loop .e) (t .result .tried) (λ v st. t .ensures v st .0) (not-true (t .result .tried .found) (c .if1 .taken)) (l .before .args .env) (l .loop .inv .1)
 
 loop-less : tie.Need-loop-less Inv-loop μ-loop
 loop-less c =
     let l = c .before .before .before in
     let t = c .before .before .r-Suffix-Verb-Step1 in
-    turn-less verbStep1 (l .loop .e) (t .result) (t .ensures) (not-false (t .result .found) (c .if1 .left)) (l .loop .inv .0)
+    turn-less verbStep1 (l .loop .e) (t .result .tried) (λ v st. t .ensures v st .0) (not-false (t .result .tried .found) (c .if1 .left)) (l .loop .inv .0)
 
 loop-again : tie.Need-loop-again Inv-loop μ-loop
 loop-again c =
     let l = c .before .before .before in
     let t = c .before .before .r-Suffix-Verb-Step1 in
-    (ready (t .result) (_, t .ensures (l .loop .inv .0 .0) (l .loop .inv .0 .1)), turn-same verbStep1 (l .loop .e) (t .result) (t .ensures) (not-false (t .result .found) (c .if1 .left)) (l .before .args .env) (l .loop .inv .1))
+    (ready (t .result .tried) (_, t .ensures (l .loop .inv .0 .0) (l .loop .inv .0 .1) .0), turn-same verbStep1 (l .loop .e) (t .result .tried) (λ v st. t .ensures v st .0) (not-false (t .result .tried .found) (c .if1 .left)) (l .before .args .env) (l .loop .inv .1))
 
 pub repeat-Step1-spec : {M : Type 1} → statement M
 repeat-Step1-spec =

@@ -9,7 +9,7 @@ use Rattle.definition.specs.Search.{longest}
 use Rattle.snowball.specs.Rows.{rowsOf}
 use Rattle.snowball.specs.Search.{between}
 use Rattle.snowball.proofs.Read.{between-length}
-use Rattle.snowball.proofs.Answers.{behind-inside, behind-none, behind-some, behind-none-bytes, behind-some-bytes}
+use Rattle.snowball.proofs.Answers.{finds, behind-inside, behind-row, behind-none, behind-some, behind-none-bytes, behind-some-bytes}
 use Rattle.snowball.proofs.among.find_among_b.Statement.{statement}
 use Rattle.snowball.proofs.among.find_among_b.Tie as tie
 
@@ -40,10 +40,11 @@ returns : tie.Need-returns
 returns c =
     let f = c .before in
     let x = a f .args in (
-      (omega (arith, a f .pre .0 .0), omega arith, let n = behind-none-bytes (x .rows .now) (x .lens .now) (x .links .now) (x .classes .now) (a f .pre .1 .1) (s f) (r f) (a f .pre .1 .0) (is f) (c .if1 .taken) in record { class = n .0; cursor = omega (arith, n .1) }),
+      (omega (arith, a f .pre .0 .0), omega arith, let n = behind-none-bytes (x .rows .now) (x .lens .now) (x .links .now) (x .classes .now) (a f .pre .1 .1) (s f) (r f) (a f .pre .1 .0) (is f) (c .if1 .taken) in record { finds = finds (is f) (n .0); cursor = omega (arith, n .1) }),
       λ t q p w sc e.
+          let i = behind-row (x .rows .now) (x .lens .now) (x .links .now) (x .classes .now) (a f .pre .1 .1) (s f) (r f) (a f .pre .1 .0) (is f) t q p w sc e in
           let n = behind-none (x .rows .now) (x .lens .now) (x .links .now) (x .classes .now) (a f .pre .1 .1) (s f) (r f) (a f .pre .1 .0) (is f) t q p w sc e (c .if1 .taken) in
-          record { class = n .0; cursor = omega (arith, n .1) },
+          record { finds = finds i (n .0); cursor = omega (arith, n .1) },
     )
 
 shared-slice-read-t12 : tie.Need-shared-slice-read-t12
@@ -64,10 +65,11 @@ returns-2 c =
     let f = e .before in
     let x = a f .args in
     let i = inside f (e .if1 .left) in (
-      (omega (arith, i .2, c .wide .ensures), omega arith, let n = behind-some-bytes (x .rows .now) (x .lens .now) (x .links .now) (x .classes .now) (a f .pre .1 .1) (s f) (r f) (a f .pre .1 .0) (is f) (e .if1 .left) in record { class = n .0; cursor = ap (λ (m : ℕ). x .cursor - m) (c .wide .ensures ∙ n .1) }),
+      (omega (arith, i .2, c .wide .ensures), omega arith, let n = behind-some-bytes (x .rows .now) (x .lens .now) (x .links .now) (x .classes .now) (a f .pre .1 .1) (s f) (r f) (a f .pre .1 .0) (is f) (e .if1 .left) in record { finds = finds (is f) (n .0); cursor = ap (λ (m : ℕ). x .cursor - m) (c .wide .ensures ∙ n .1) }),
       λ t q p w sc z.
+          let j = behind-row (x .rows .now) (x .lens .now) (x .links .now) (x .classes .now) (a f .pre .1 .1) (s f) (r f) (a f .pre .1 .0) (is f) t q p w sc z in
           let n = behind-some (x .rows .now) (x .lens .now) (x .links .now) (x .classes .now) (a f .pre .1 .1) (s f) (r f) (a f .pre .1 .0) (is f) t q p w sc z (e .if1 .left) in
-          record { class = n .0; cursor = ap (λ (m : ℕ). x .cursor - m) (c .wide .ensures ∙ n .1) },
+          record { finds = finds j (n .0); cursor = ap (λ (m : ℕ). x .cursor - m) (c .wide .ensures ∙ n .1) },
     )
 
 pub find-among-b-spec : {M : Type 1} → statement M
