@@ -1,5 +1,8 @@
-// Answers every entry for each line of standard input: stem, kind, normalised and finished word, parted by tabs. A refusal is `?` and
-// its code; the kind is 0 for open and 1 for defined. The answers of the Rust for the same words are stored beside it.
+// Answers every entry for each line of standard input: stem, kind, normalised and finished word, and the row of each step, parted by
+// tabs. A refusal is `?` and its code; the kind is 0 for open and 1 for defined. The answers of the Rust for the same words are stored
+// beside it.
+mod rows;
+
 use libc::STDIN_FILENO;
 use libc::STDOUT_FILENO;
 use stemmer::Answer;
@@ -45,7 +48,7 @@ fn write_kind(code: u32, defined: bool) {
     write(b"0");
 }
 
-fn answer(word: &[u8], out: &mut [u8]) {
+fn answer_entries(word: &[u8], out: &mut [u8]) {
     let s = stemmer::stem(word, out);
     write_answer(s, out);
     write(b"\t");
@@ -58,6 +61,12 @@ fn answer(word: &[u8], out: &mut [u8]) {
     write(b"\t");
     let f = stemmer::finish(word, out);
     write_answer(f, out);
+}
+
+fn answer(word: &[u8], out: &mut [u8]) {
+    answer_entries(word, out);
+    write(b"\t");
+    rows::write_rows(word);
     write(b"\n");
 }
 
