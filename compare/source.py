@@ -71,6 +71,11 @@ def rust_step(source, name):
     return Step(table, guards, replacements)
 
 
+def rust_exceptions(source, name):
+    """The letters at which a step ends before it searches."""
+    return [unescape(text) for text in re.findall(r'eq_s\(&"([^"]*)"\)', function(source, name))]
+
+
 def hex_word(word):
     return ' '.join('%X' % c for c in word)
 
@@ -78,8 +83,10 @@ def hex_word(word):
 def answers(program, words):
     """The fields that a program prints for each word: it reads a word a line, and parts the fields by tabs."""
     given = ''.join(hex_word(w) + '\n' for w in words)
-    out = subprocess.run(program, input=given, capture_output=True, text=True, check=True).stdout
-    lines = [line.split('\t') for line in out.split('\n')[:-1]]
+    ran = subprocess.run(program, input=given, capture_output=True, text=True)
+    if ran.returncode:
+        fail(f"{program[0]} ends with status {ran.returncode}: {' '.join(ran.stderr.split())}")
+    lines = [line.split('\t') for line in ran.stdout.split('\n')[:-1]]
     return lines if len(lines) == len(words) else fail(f'{len(lines)} answers of {program[0]} for {len(words)} words')
 
 

@@ -8,8 +8,12 @@ FOREIGN = [0x24, 0x41, 0x7A, 0x7F, 0x80, 0xE9, 0x3A9, 0x670, 0x6F0, 0x7FF, 0x800
            0xFFFF, 0x10000, 0x1F453, 0x10FFFF]
 
 
+def encoded(word):
+    return ''.join(map(chr, word)).encode()
+
+
 def size(word):
-    return len(''.join(map(chr, word)).encode())
+    return len(encoded(word))
 
 
 def rows(tables, numbers):
