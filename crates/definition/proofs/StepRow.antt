@@ -1,7 +1,6 @@
 -- The row of a step: that it is the longest match, that no other row is, and that a step takes this row or none. Assumes nothing.
 use mathlib.Core.Path.{_≡_, refl, sym, ap, _∙_, subst}
 use mathlib.Core.Bool.{Bool, true, false}
-use mathlib.Core.Logic.{inl, inr}
 use mathlib.Core.List.{[], _∷_, map}
 use mathlib.Core.Option.{none, some}
 use Prim.Native.Nat.{ℕ}
@@ -9,8 +8,8 @@ use lib.Dec.{eqb}
 use lib.ListN.{length}
 use Rattle.definition.specs.Letters.{alefMaksura}
 use Rattle.definition.specs.Words.{Word, pick, same, beginsWith, endsWith}
-use Rattle.definition.specs.Tables.{Table, «A_3», «A_4», «A_5», «A_6», «A_7», «A_8», «A_9», «A_11», «A_12», «A_13», «A_14», «A_15», «A_16», «A_17», «A_18», «A_19», «A_20», «A_21»}
-use Rattle.definition.specs.Search.{Rule, rowAt, longer, longest, met, taken}
+use Rattle.definition.specs.Tables.{«A_3», «A_4», «A_5», «A_6», «A_7», «A_8», «A_9», «A_11», «A_12», «A_13», «A_14», «A_15», «A_16», «A_17», «A_18», «A_19», «A_20», «A_21»}
+use Rattle.definition.specs.Search.{Rule, longer, longest, met, taken}
 use Rattle.definition.specs.Tries.{Try, done, failed, isDone}
 use Rattle.definition.specs.Kind.{OPEN, DEFINED, kindBy, kind}
 use Rattle.definition.specs.Endings.{SuffixStep, verbStep1, verbStep2a, verbStep2b, verbStep2c, nounStep1b, nounStep2a, nounStep2b, nounStep2c1, nounStep2c2, nounStep3, suffix, Cutting, cutOff, cutBy, cut, maqsura}
@@ -20,7 +19,7 @@ use Rattle.definition.specs.Facts.{LongestMatch, distinct}
 use Rattle.definition.specs.StepRow.{OneSearch, kindCheck, ofEnding, alefMaqsura, ofFront, searched, matchIn, endsBefore, stepRow, guardMet, rowComputed, rowSamples}
 use Rattle.definition.proofs.Match.{by}
 use Rattle.definition.proofs.Found.{row-behind, longest-match}
-use Rattle.definition.proofs.Unique.{rigid-front, rigid-end, longest-is, longest-none}
+use Rattle.definition.proofs.Unique.{rigid-front, rigid-end, longest-only}
 
 -- ---- the longest match
 
@@ -46,20 +45,11 @@ distinct-searched (ofFront prefixStep3bNoun) = refl
 distinct-searched (ofFront prefixStep3Verb) = refl
 distinct-searched (ofFront prefixStep4Verb) = refl
 
--- a row in front, or at the end, that is the longest match is the one that a search answers
-front-match : (w : Word) (t : Table) → distinct t ≡ true → (r : ℕ) → LongestMatch (beginsWith w) t r → r ≡ longest (beginsWith w) t
-front-match w t d r (inl l) = sym (longest-is (beginsWith w) t d (rigid-front w) r (l .0) (l .1) (l .2))
-front-match w t d r (inr l) = l .0 ∙ sym (longest-none (beginsWith w) t (l .1))
-
-end-match : (w : Word) (t : Table) → distinct t ≡ true → (r : ℕ) → LongestMatch (endsWith w) t r → r ≡ longest (endsWith w) t
-end-match w t d r (inl l) = sym (longest-is (endsWith w) t d (rigid-end w) r (l .0) (l .1) (l .2))
-end-match w t d r (inr l) = l .0 ∙ sym (longest-none (endsWith w) t (l .1))
-
 match-only : (s : OneSearch) (w : Word) (r : ℕ) → LongestMatch (matchIn s w) (searched s) r → r ≡ longest (matchIn s w) (searched s)
-match-only kindCheck w = front-match w «A_3» (distinct-searched kindCheck)
-match-only (ofEnding s) w = end-match w (suffix s .table) (distinct-searched (ofEnding s))
-match-only alefMaqsura w = end-match w «A_21» (distinct-searched alefMaqsura)
-match-only (ofFront s) w = front-match w (prefix s .table) (distinct-searched (ofFront s))
+match-only kindCheck w = longest-only (beginsWith w) «A_3» (distinct-searched kindCheck) (rigid-front w)
+match-only (ofEnding s) w = longest-only (endsWith w) (suffix s .table) (distinct-searched (ofEnding s)) (rigid-end w)
+match-only alefMaqsura w = longest-only (endsWith w) «A_21» (distinct-searched alefMaqsura) (rigid-end w)
+match-only (ofFront s) w = longest-only (beginsWith w) (prefix s .table) (distinct-searched (ofFront s)) (rigid-front w)
 
 -- ---- the step's row
 module _ (s : OneSearch) (w : Word) where

@@ -11,7 +11,7 @@ use borrow.Author.Tests.{leb-true, le-leb, lt-leb, not-true}
 use Rattle.definition.specs.Words.{Word, pick, every, same, beginsWith, endsWith}
 use Rattle.definition.specs.Tables.{Row, Table, «A_0», «A_1», «A_2», «A_3», «A_4», «A_5», «A_6», «A_7», «A_8», «A_9», «A_11», «A_12», «A_13», «A_14», «A_15», «A_16», «A_17», «A_18», «A_19», «A_20», «A_21»}
 use Rattle.definition.specs.Search.{rowAt, longer, longest}
-use Rattle.definition.specs.Facts.{Longest, distinct, allTables}
+use Rattle.definition.specs.Facts.{Longest, LongestMatch, distinct, allTables}
 use Rattle.definition.proofs.Match.{both-0, both-1, by, same-eq, same-refl}
 use Rattle.definition.proofs.Found.{Found, all-at, longest-found, longest-longest, no-letters}
 
@@ -73,6 +73,11 @@ longest-none match t h = go (longest-found match t)
     go : Found match t (longest match t) → longest match t ≡ length t
     go (inl f) = absurd (h (longest match t) (f .0) (f .1))
     go (inr f) = f
+
+-- so the longest match is the one that the search answers
+pub longest-only : (match : Word → Bool) (t : Table) → distinct t ≡ true → Rigid match → (r : ℕ) → LongestMatch match t r → r ≡ longest match t
+longest-only match t d rigid r (inl l) = sym (longest-is match t d rigid r (l .0) (l .1) (l .2))
+longest-only match t d rigid r (inr l) = l .0 ∙ sym (longest-none match t (l .1))
 
 -- a row that matches, is longer than the rows before it that match, and no shorter than any that matches, is the one that the search answers
 pub longest-at : (match : Word → Bool) (t : Table) (r : ℕ) → r < length t → match (rowAt t r .letters) ≡ true
