@@ -36,6 +36,7 @@ use Rattle.snowball.proofs.Read.{keys-length, keys-at}
 use Rattle.snowball.proofs.Answers.{low-scalars}
 use Rattle.snowball.proofs.Match.{stands-inside, stands-end, place-match}
 use Rattle.snowball.proofs.Standing.{cursor-within, with-cursor, stands-letters}
+use Rattle.arabic.specs.declared.prefix_halves.FoundFront.{FoundFront}
 use Rattle.arabic.specs.Fronts.{cursorOf, atFront, Fronts, GivesFront, classBy, behindBy, Takes, encoded, measured, Puts, InPlace, ChangesInPlace}
 use Rattle.arabic.proofs.Guarded.{no-class, too-few, enough}
 
@@ -51,7 +52,7 @@ module _ (s : PrefixStep) (t rest : Word) (at : ℕ) (f : Found) (a : Ahead (pre
     pub too-short : n < g → Takes s t rest at (record { row = f .row; class = 0; cursor = at })
     too-short h = none-taken (too-few (beginsWith rest) (prefix s) (length t) (f .class) (a .finds .class) some1 n g en eg h)
 
-    pub long-enough : g ≤ n → Takes s t rest at f
+    pub long-enough : g ≤ n → Takes s t rest at (record { row = f .row; class = f .class; cursor = f .cursor })
     long-enough h =
         let q = enough (beginsWith rest) (prefix s) (length t) (f .class) (a .finds .class) some1 n g en eg h in
         record { row = a .finds .row; class = a .finds .class ∙ sym (ap (classBy s) q); cursor = a .cursor ∙ sym (ap (behindBy s at) q) }
@@ -178,7 +179,7 @@ pub any-next : (w k : Word) (ks : List Word) → beginsWith w k ≡ false → be
 any-next w k ks h = ap (λ (b : Bool). pick b true (beginsWithAny w ks)) h
 
 -- ---- the replacement
-module _ (s : PrefixStep) (w : Fronting) (x : Env) (st : Fronts x w) (f : Found) (tk : Takes s (text w) (w .rest) (x .cursor) f) where
+module _ (s : PrefixStep) (w : Fronting) (x : Env) (st : Fronts x w) (f : FoundFront) (tk : Takes s (text w) (w .rest) (x .cursor) f) where
   -- the row that is taken
   module _ (r : ℕ) (q : taken (beginsWith (w .rest)) (prefix s) (length (text w)) ≡ some r) where
     abbrev key : Row

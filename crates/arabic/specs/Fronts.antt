@@ -13,12 +13,12 @@ use Rattle.definition.specs.Fronts.{PrefixStep, prefix, replacements, Applied, 
 use Rattle.utf8.specs.Utf8.{encode}
 use Rattle.utf8.specs.Places.{size}
 use Rattle.snowball.specs.declared.env.Env.{Env}
-use Rattle.snowball.specs.declared.among.Found.{Found}
 use Rattle.snowball.specs.Rows.{keys}
 use Rattle.snowball.specs.Cut.{replaced}
 use Rattle.snowball.specs.Chars.{Chars}
 use Rattle.snowball.specs.Stands.{Stands}
 use Rattle.arabic.specs.declared.tried.Tried.{Tried}
+use Rattle.arabic.specs.declared.prefix_halves.FoundFront.{FoundFront}
 use Rattle.arabic.specs.Tried.{Answers}
 
 -- how many letters are in front of the cursor
@@ -54,7 +54,7 @@ behindBy s at none = at
 behindBy s at (some r) = at + size (rowAt (prefix s .table) r .letters)
 
 -- f has the longest row of s where rest follows the cursor at in the text t, and the class and the end of the row that s takes; class 0 and the cursor where it takes none
-pub record Takes (s : PrefixStep) (t rest : Word) (at : ℕ) (f : Found) : Type 0 where
+pub record Takes (s : PrefixStep) (t rest : Word) (at : ℕ) (f : FoundFront) : Type 0 where
   pub row : f .row ≡ longest (beginsWith rest) (prefix s .table)
   pub class : f .class ≡ classBy s (taken (beginsWith rest) (prefix s) (length t))
   pub cursor : f .cursor ≡ behindBy s at (taken (beginsWith rest) (prefix s) (length t))

@@ -39,7 +39,8 @@ pub struct KindFound {
     pub kind: Kind,
 }
 
-// The kind of the word in front of the limit: defined where it begins with a row of A_3 and has enough letters for its class.
+// The row of A_3 that the word in front of the limit begins with, and its kind: defined where there is one and the word has enough
+// letters for its class.
 pub fn kind_of(text: &[u8], limit: usize) -> KindFound
     requires { ⌜ Spelt (now text) limit ⌝ }
     ensures { λ r. ⌜ ((w : Word) → Scalars w → take limit (now (text .entry)) ≡ encode w → (r .kind ≡ flags (kind w)) × (r .row ≡ stepRow kindCheck w)) ⌝ }

@@ -1,8 +1,7 @@
-// The two halves of a step that changes the front: which row it takes, read off the text, and what replaces the row.
+// The two halves of a step that changes the front: the row and whether the step takes it, read off the text, and what replaces the row.
 use crate::tried::Searched;
 use crate::tried::Tried;
 use crate::tried::least_letters;
-use snowball::among::Found;
 use snowball::among::find_among;
 use snowball::among::wide;
 use snowball::env::Env;
@@ -21,8 +20,15 @@ ghost use Rattle.snowball.specs.Search.{between};
 ghost use Rattle.arabic.specs.Bytes.{Encodes, Spelt};
 ghost use Rattle.arabic.specs.Fronts.{Fronts, GivesFront, Takes, Puts, ChangesInPlace};
 
-// What a step with this table and these guards finds at the cursor: the row of its search, and, where it takes that row, its class and the
-// cursor behind it. Where it takes none, class 0 and the old cursor.
+// The row of a step's search, and the class and the cursor behind the row where the step takes it; class 0 and the old cursor where it
+// takes none.
+pub struct FoundFront {
+    pub row: usize,
+    pub class: u8,
+    pub cursor: usize,
+}
+
+// What a step with this table and these guards finds at the cursor.
 pub fn front_row(
     text: &[u8],
     cursor: usize,
@@ -32,7 +38,7 @@ pub fn front_row(
     links: &[u8],
     classes: &[u8],
     guards: &[u8],
-) -> Found
+) -> FoundFront
     requires { ⌜ Spelt (now text) limit × (cursor ≤ limit) × ((rest : Word) × Encodes (between (now text) cursor limit) rest) ⌝ }
     requires { ⌜ T (wellFormed (keys (now rows) (now lens)) (now lens) (now links)) × (length (now classes) ≡ length (now rows)) ⌝ }
     ensures { λ r. ⌜ ((s : PrefixStep) → rowsOf (now (rows .entry)) (now (lens .entry)) (now (classes .entry)) ≡ byteTable (prefix s .table)
@@ -44,7 +50,7 @@ pub fn front_row(
     let row = f.row;
     let class = f.class;
     if class == 0 {
-        return Found {
+        return FoundFront {
             row,
             class: 0,
             cursor,
@@ -52,9 +58,13 @@ pub fn front_row(
     }
     let least = least_letters(guards, class);
     if has_chars(text, limit, least) {
-        return f;
+        return FoundFront {
+            row,
+            class,
+            cursor: f.cursor,
+        };
     }
-    Found {
+    FoundFront {
         row,
         class: 0,
         cursor,
@@ -62,7 +72,7 @@ pub fn front_row(
 }
 
 // Replaces the row at the cursor by what stands for its class, and the cursor goes behind it. With class 0 the step fails.
-pub fn replace_front(env: Env, f: Found, news: &[[u8; 6]], lens: &[u8]) -> Searched
+pub fn replace_front(env: Env, f: FoundFront, news: &[[u8; 6]], lens: &[u8]) -> Searched
     requires { ⌜ ((s : PrefixStep) × ((w : Fronting) × (Fronts env w × (Takes s (text w) (w .rest) (env .cursor) f × Puts s (now news) (now lens))))) ⌝ }
     ensures { λ r. ⌜ ((s : PrefixStep) (w : Fronting) → Fronts env w → Takes s (text w) (w .rest) (env .cursor) f → Puts s (now (news .entry)) (now (lens .entry))
         → beginsWithAny (w .rest) (notAt s) ≡ false → ChangesInPlace s w → GivesFront (r .tried) (apply s w) × (r .row ≡ stepRow (ofFront s) (w .rest))) ⌝ }

@@ -185,14 +185,14 @@ pub fn r_Suffix_Noun_Step3(env: Env) -> Searched
 }
 
 // The row of the search for the last 0649, and the environment after it.
-pub struct LastLetter {
+pub struct MaqsuraFound {
     pub row: usize,
     pub env: Env,
 }
 
 // A last 0649 becomes 064A. The Rust's answer, which its caller does not use, is left out. The cursor stays at the end of the text: the
 // Rust's search leaves it in front of the letter, and its caller puts it to the end.
-pub fn r_Suffix_All_alef_maqsura(env: Env) -> LastLetter
+pub fn r_Suffix_All_alef_maqsura(env: Env) -> MaqsuraFound
     requires { ⌜ Ready env ⌝ }
     ensures { λ r. ⌜ ((w : Word) → Stands env (atEnd w) → Stands (r .env) (atEnd (suffixAllAlefMaqsura w)) × (r .row ≡ stepRow alefMaqsura w)) ⌝ }
 {
@@ -208,11 +208,11 @@ pub fn r_Suffix_All_alef_maqsura(env: Env) -> LastLetter
     );
     let row = f.row;
     if f.class == 0 {
-        return LastLetter { row, env };
+        return MaqsuraFound { row, env };
     }
     let mut e = env;
     e.ket = e.cursor;
     e.bra = f.cursor;
     let d = e.slice_from(b"\xD9\x8A");
-    LastLetter { row, env: d }
+    MaqsuraFound { row, env: d }
 }

@@ -14,7 +14,8 @@ pub struct Tried {
     pub env: Env,
 }
 
-// The answer of a step that makes one search: the number of the row that the search found, and what the step did.
+// The answer of a step that makes one search: the number of the row that the search found, and what the step did. With no row it is the
+// number of rows, also where the step ended before it searched.
 pub struct Searched {
     pub row: usize,
     pub tried: Tried,

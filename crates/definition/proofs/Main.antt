@@ -1,5 +1,5 @@
 -- What is shown of the definition: the main theorems of this crate, each closed by the file that proves it. Assumes nothing.
-use mathlib.Core.Path.{_≡_}
+use mathlib.Core.Path.{_≡_, refl}
 use mathlib.Core.Bool.{true, false}
 use mathlib.Core.Logic.{_⊎_}
 use mathlib.Core.List.{[], _∷_, _++_, map}
@@ -9,20 +9,20 @@ use lib.Dec.{eqb}
 use lib.ListN.{length}
 use Rattle.definition.specs.Letters.{hamza, alefHamzaAbove, alef, beh, waw, yeh}
 use Rattle.definition.specs.Words.{Word, pick, every, beginsWith, endsWith}
-use Rattle.definition.specs.Tables.{Table, «A_0», «A_1», «A_2», «A_12», «A_21»}
-use Rattle.definition.specs.Search.{rowAt, longest, taken}
+use Rattle.definition.specs.Tables.{Table, «A_0», «A_1», «A_2», «A_3», «A_12», «A_21»}
+use Rattle.definition.specs.Search.{rowAt, longest, guardMet, taken}
 use Rattle.definition.specs.Tries.{done, failed, after, isDone, again}
 use Rattle.definition.specs.Kind.{Kind, OPEN, DEFINED, kind}
 use Rattle.definition.specs.Normal.{normal, normalise}
 use Rattle.definition.specs.Endings.{SuffixStep, nounStep1b, nounStep2a, nounStep2b, nounStep2c1, suffix, Cutting, uncut, cutOff, cut, verb, endings, suffixAllAlefMaqsura, maqsura, allEndings, maqsuraIfFailed}
-use Rattle.definition.specs.Fronts.{PrefixStep, prefix, at, Fronting, text, change, apply}
+use Rattle.definition.specs.Fronts.{PrefixStep, prefixStep2, prefixStep3bNoun, prefix, notAt, at, Fronting, text, change, beginsWithAny, apply}
 use Rattle.definition.specs.Finish.{last, other, finish}
 use Rattle.definition.specs.Stem.{cutting, stemOf, stem, chain, back}
 use Rattle.definition.specs.Demand3.{NoKey, NoHamza, AllOf, Demand3}
 use Rattle.definition.specs.Facts.{Longest, LongestMatch, distinct, allTables, plainLetter, noPlainKey, replaced, Idle, AllCuts, NotNoonAlef, cutWord}
 use Rattle.definition.specs.Examples.{computed, twelve, work, examples, samples, normalised, normalSamples}
 use Rattle.definition.specs.Listed.{checks1, EveryClassListed}
-use Rattle.definition.specs.StepRow.{OneSearch, kindCheck, ofEnding, alefMaqsura, ofFront, searched, matchIn, endsBefore, stepRow, guardMet, rowComputed, rowSamples}
+use Rattle.definition.specs.StepRow.{OneSearch, kindCheck, ofEnding, alefMaqsura, ofFront, tableOf, matchIn, endsEarly, stepRow, rowComputed, rowSamples}
 use Rattle.definition.specs.Depends.{SameWay, OneWordTwoKinds, yehRow, OnlyDefined, DefinedCuts, OpenCuts}
 use Rattle.definition.proofs.Examples.{examples-right, depends-right}
 use Rattle.definition.proofs.Finish.{finish-joined, finish-all}
@@ -30,7 +30,7 @@ use Rattle.definition.proofs.Listed.{every-class-listed}
 use Rattle.definition.proofs.Rows.{last-rows, other-rows, maqsura-row}
 use Rattle.definition.proofs.Leave.{all-endings}
 use Rattle.definition.proofs.Unique.{rigid-front, rigid-end, longest-is, distinct-all}
-use Rattle.definition.proofs.StepRow.{row-ended, row-longest, row-only, cut-row, apply-row, kind-row, maqsura-by-row, row-samples-right}
+use Rattle.definition.proofs.StepRow.{ends-early, row-ended, row-longest, row-only, cut-row, apply-row, kind-row, maqsura-by-row, row-samples-right}
 use Rattle.definition.proofs.Passed.{ranges-of, plain-of, key-free-word, no-plain-keys, plain-normal, plain-word}
 use Rattle.definition.proofs.Plain.{normalise-plain}
 use Rattle.definition.proofs.Twice.{normalise-joined, normalise-twice, finish-free, finish-stays, finish-twice, finish-apart, finish-with-none}
@@ -87,14 +87,22 @@ main-distinct = distinct-all
 
 -- ---- the row of a step
 
+-- it is the row that a search of the step's own table answers, but where a front ends at a text of its exceptions
+pub main-row-by : ((w : Word) → stepRow kindCheck w ≡ longest (beginsWith w) «A_3»)
+    × ((s : SuffixStep) (w : Word) → stepRow (ofEnding s) w ≡ longest (endsWith w) (suffix s .table))
+    × ((w : Word) → stepRow alefMaqsura w ≡ longest (endsWith w) «A_21»)
+    × ((s : PrefixStep) (w : Word) → stepRow (ofFront s) w ≡ pick (beginsWithAny w (notAt s)) (length (prefix s .table)) (longest (beginsWith w) (prefix s .table)))
+main-row-by = (λ w. refl, λ s w. refl, λ w. refl, λ s w. refl)
+
 -- where a step searches, its row is the longest match in its table, and no other row is
-pub main-row : (s : OneSearch) (w : Word) → endsBefore s w ≡ false
-    → LongestMatch (matchIn s w) (searched s) (stepRow s w) × ((r : ℕ) → LongestMatch (matchIn s w) (searched s) r → r ≡ stepRow s w)
+pub main-row : (s : OneSearch) (w : Word) → endsEarly s w ≡ false
+    → LongestMatch (matchIn s w) (tableOf s) (stepRow s w) × ((r : ℕ) → LongestMatch (matchIn s w) (tableOf s) r → r ≡ stepRow s w)
 main-row s w e = (row-longest s w e, row-only s w e)
 
--- where it ends before, it is the table's number of rows
-pub main-row-ended : (s : OneSearch) (w : Word) → endsBefore s w ≡ true → stepRow s w ≡ length (searched s)
-main-row-ended = row-ended
+-- where it ends before, it is the table's number of rows; only two steps do
+pub main-row-ended : (s : OneSearch) (w : Word) → endsEarly s w ≡ true
+    → (stepRow s w ≡ length (tableOf s)) × ((s ≡ ofFront prefixStep2) ⊎ (s ≡ ofFront prefixStep3bNoun))
+main-row-ended s w e = (row-ended s w e, ends-early s w e)
 
 -- A step takes this row where the guard of the row is met, and else it fails, also where a shorter row would do.
 pub main-row-cut : (s : SuffixStep) (v : Cutting)

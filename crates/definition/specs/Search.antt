@@ -40,7 +40,10 @@ unfoldable pub met : List ℕ → ℕ → ℕ → Bool
 met least zero n = false
 met least (suc k) n = leb (leastLetters least (suc k)) n
 
+-- whether n letters meet the guard of the rule's row r; behind the last row is class 0
+abbrev pub guardMet : Rule → ℕ → ℕ → Bool
+guardMet s r n = met (s .guards) (rowAt (s .table) r .class) n
+
 -- The longest row, if there is one and its guard is met by n letters. No shorter row is tried.
 unfoldable pub taken : (Word → Bool) → Rule → ℕ → Option ℕ
-taken match s n =
-    pick (met (s .guards) (rowAt (s .table) (longest match (s .table)) .class) n) (some (longest match (s .table))) none
+taken match s n = pick (guardMet s (longest match (s .table)) n) (some (longest match (s .table))) none

@@ -1,7 +1,6 @@
 -- Request A8: the noun's Step1a cuts in no word, and the definition without it is equal in stem, kind and chain. Assumes nothing.
 use mathlib.Core.Path.{_≡_}
 use mathlib.Core.List.{[], map}
-use Prim.Native.Nat.{ℕ}
 use lib.ListN.{length}
 use Rattle.definition.specs.Words.{Word}
 use Rattle.definition.specs.Tries.{done, after}

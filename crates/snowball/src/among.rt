@@ -246,7 +246,8 @@ fn walk(i: usize, common: usize, lens: &[u8], links: &[u8]) -> usize
     walk(wide(link), common, lens, links)
 }
 
-// The number of the longest row at the cursor, no byte of it behind the limit; the number of rows where none matches.
+// The number of the longest row at the cursor, no byte of it behind the limit; the number of rows where none matches. The first row is
+// looked at before the walk, which stays a real call.
 fn row_among(
     text: &[u8],
     cursor: usize,
