@@ -10,7 +10,7 @@ mod interface;
 #[path = "source/mod.rs"]
 mod snowball;
 
-use interface::{arabic_stemmer_normalise, arabic_stemmer_stem, Entry};
+use interface::{arabic_stemmer_normalise, arabic_stemmer_stem};
 use snowball::algorithms::{arabic, arabic_test_copy};
 use snowball::SnowballEnv;
 use std::collections::HashMap;
@@ -27,13 +27,13 @@ struct Set {
     words: Vec<String>,
 }
 
+/// The sum of the counts that the entry answers.
 #[inline(always)]
-fn through(entry: Entry, words: &[String]) -> usize {
+fn through<F: Fn(&[u8], &mut [u8]) -> usize>(entry: F, words: &[String]) -> usize {
     let mut out = [0u8; 340];
     let mut sum = 0;
     for word in words {
-        let answer = unsafe { entry(word.as_ptr(), word.len(), out.as_mut_ptr(), out.len()) };
-        sum += answer.count;
+        sum += entry(word.as_bytes(), &mut out);
     }
     sum
 }
@@ -41,13 +41,13 @@ fn through(entry: Entry, words: &[String]) -> usize {
 #[no_mangle]
 #[inline(never)]
 pub fn run_ours(words: &[String]) -> usize {
-    through(arabic_stemmer_stem, words)
+    through(|word, out| unsafe { arabic_stemmer_stem(word.as_ptr(), word.len(), out.as_mut_ptr(), out.len()) }.count, words)
 }
 
 #[no_mangle]
 #[inline(never)]
 pub fn run_normalise(words: &[String]) -> usize {
-    through(arabic_stemmer_normalise, words)
+    through(|word, out| unsafe { arabic_stemmer_normalise(word.as_ptr(), word.len(), out.as_mut_ptr(), out.len()) }.count, words)
 }
 
 #[no_mangle]

@@ -91,6 +91,6 @@ def answers(program, words):
 
 
 def rust_answers(docs, folder, words):
-    """Stem, kind, normalised and finished word of each word, by the Rust built in the folder."""
+    """Stem, kind, normalised and finished word and number of endings cut of each word, by the Rust built in the folder."""
     subprocess.run([os.path.join(HERE, 'reference', 'build'), docs, folder], check=True)
     return answers([os.path.join(folder, 'reference')], words)

@@ -1,4 +1,4 @@
-/* Stems the words that it is given as arguments: a line for each, with the stem or what refused the word. */
+/* Stems the words that it is given as arguments: a line for each, with the stem, the kind and the number of endings cut, or what refused the word. */
 #include <stdio.h>
 #include <string.h>
 
@@ -24,13 +24,13 @@ int main(int argc, char **argv)
     for (int i = 1; i < argc; i++) {
         const uint8_t *word = (const uint8_t *)argv[i];
         size_t length = strlen(argv[i]);
-        arabic_stemmer_answer stem = arabic_stemmer_stem(word, length, output, sizeof output);
+        arabic_stemmer_stem_answer stem = arabic_stemmer_stem(word, length, output, sizeof output);
         if (stem.code != ARABIC_STEMMER_DONE) {
             printf("%s\n", reason(stem.code));
             continue;
         }
         arabic_stemmer_kind_answer kind = arabic_stemmer_kind(word, length);
-        printf("%.*s (%s)\n", (int)stem.count, (const char *)output, kind.kind == ARABIC_STEMMER_DEFINED ? "defined" : "open");
+        printf("%.*s (%s, endings cut: %u)\n", (int)stem.count, (const char *)output, kind.kind == ARABIC_STEMMER_DEFINED ? "defined" : "open", (unsigned)stem.endings);
     }
     return 0;
 }

@@ -19,7 +19,7 @@ extern "C" {
 /* An output of so many bytes is long enough for every result. */
 #define ARABIC_STEMMER_ROOM 340
 
-/* Codes. With a code other than 0 the count is 0, the kind is open, and the output has its old bytes. */
+/* Codes. With a code other than 0 the count and the number of endings are 0, the kind is open, and the output has its old bytes. */
 #define ARABIC_STEMMER_DONE 0            /* the result stands in front of the output */
 #define ARABIC_STEMMER_TOO_LONG 1        /* the word has more than 255 bytes: cut it, or leave it out */
 #define ARABIC_STEMMER_NOT_WELL_FORMED 2 /* the word is not well-formed UTF-8: convert it first */
@@ -35,6 +35,13 @@ typedef struct {
     size_t count;
 } arabic_stemmer_answer;
 
+/* A code, how many endings were cut, and how many bytes of the output the stem has. */
+typedef struct {
+    uint32_t code;
+    uint32_t endings;
+    size_t count;
+} arabic_stemmer_stem_answer;
+
 /* A code, and a kind. */
 typedef struct {
     uint32_t code;
@@ -43,8 +50,11 @@ typedef struct {
 
 /* The stem of the word: with code 0 its bytes stand in front of the output, and the bytes behind the count are the
  * old ones. A word of nothing but characters that normalising deletes has an empty stem, with code 0
- * and count 0. */
-arabic_stemmer_answer arabic_stemmer_stem(const uint8_t *word, size_t word_length, uint8_t *output, size_t output_length);
+ * and count 0.
+ * The number of endings is that of all endings that were cut on the way to the stem, one after the other; what is taken or
+ * changed in front is not counted. For a word of n letters when it is normalised it is at most n - 2, and 0 where n is below 3;
+ * for a defined word it is at most 3. */
+arabic_stemmer_stem_answer arabic_stemmer_stem(const uint8_t *word, size_t word_length, uint8_t *output, size_t output_length);
 
 /* The word normalised, with nothing cut: vowel marks, the tatweel and some punctuation deleted, digits and presentation forms
  * replaced. A well-formed text of any length may be normalised in blocks of up to 255 bytes, each cut before a byte that is not

@@ -1,4 +1,4 @@
-// Compares every entry of the library with the Rust on one word: code, count or kind, and every byte of the output.
+// Compares every entry of the library with the Rust on one word: code, count or kind, the number of endings, and every byte of the output.
 
 use interface::*;
 use snowball::algorithms::{arabic, arabic_test_copy};
@@ -49,7 +49,7 @@ impl Fenced {
 /// What the Rust answers.
 pub enum Expected {
     Refused(u32),
-    Given { defined: bool, texts: [String; 3] },
+    Given { defined: bool, endings: u32, texts: [String; 3] },
 }
 
 pub fn expected(word: &[u8]) -> Result<Expected, String> {
@@ -64,7 +64,11 @@ pub fn expected(word: &[u8]) -> Result<Expected, String> {
         let mut env = SnowballEnv::create(word);
         arabic::stem(&mut env);
         let stem = env.get_current().into_owned();
-        Expected::Given { defined: arabic_test_copy::is_defined(word), texts: [stem, arabic_test_copy::normalised(word), arabic_test_copy::finished(word)] }
+        Expected::Given {
+            defined: arabic_test_copy::is_defined(word),
+            endings: arabic_test_copy::endings_cut(word),
+            texts: [stem, arabic_test_copy::normalised(word), arabic_test_copy::finished(word)],
+        }
     })
     .map_err(|_| "the Rust panicked".to_string())
 }
@@ -108,8 +112,9 @@ impl Checker {
         Checker { word: Fenced::new(), out: Fenced::new(), pattern: pattern, turn: 0, all_lengths: true }
     }
 
-    /// One call with an output of the given length, which holds a pattern before. `result` is the Rust's text or a refusal's code.
-    fn call<F: FnMut(*mut u8, usize) -> Answer>(&mut self, name: &'static str, out_len: usize, result: Result<&[u8], u32>, mut entry: F) -> Option<Difference> {
+    /// One call with an output of the given length, which holds a pattern before. `result` is the Rust's text and its number of endings, or a refusal's code;
+    /// an entry that gives no such number counts none.
+    fn call<F: FnMut(*mut u8, usize) -> StemAnswer>(&mut self, name: &'static str, out_len: usize, result: Result<(&[u8], u32), u32>, mut entry: F) -> Option<Difference> {
         self.turn += 1;
         let behind = self.turn % 4 != 0;
         let old = &self.pattern[self.turn % 997..][..out_len + BESIDE];
@@ -121,10 +126,10 @@ impl Checker {
             std::slice::from_raw_parts(from, out_len + BESIDE)
         };
         let answer = entry(place, out_len);
-        let (want, text): (Answer, &[u8]) = match result {
-            Err(code) => (Answer { code: code, count: 0 }, b""),
-            Ok(text) if text.len() > out_len => (Answer { code: 3, count: 0 }, b""),
-            Ok(text) => (Answer { code: 0, count: text.len() }, text),
+        let (want, text): (StemAnswer, &[u8]) = match result {
+            Err(code) => (StemAnswer { code: code, endings: 0, count: 0 }, b""),
+            Ok((text, _)) if text.len() > out_len => (StemAnswer { code: 3, endings: 0, count: 0 }, b""),
+            Ok((text, endings)) => (StemAnswer { code: 0, endings: endings, count: text.len() }, text),
         };
         let at = if behind { BESIDE } else { 0 };
         if answer == want && now[..at] == old[..at] && now[at..at + text.len()] == *text && now[at + text.len()..] == old[at + text.len()..] {
@@ -132,20 +137,20 @@ impl Checker {
         }
         let mut good = old.to_vec();
         good[at..at + text.len()].copy_from_slice(text);
-        let show = |a: Answer, all: &[u8]| {
-            let text = hex(&all[at..at + a.count.min(out_len)]);
+        let show = |a: StemAnswer, all: &[u8]| {
+            let told = format!("code {}, count {}, endings {}, text {}", a.code, a.count, a.endings, hex(&all[at..at + a.count.min(out_len)]));
             match (0..all.len()).find(|i| now[*i] != good[*i]) {
-                None => format!("code {}, count {}, text {}", a.code, a.count, text),
-                Some(i) => format!("code {}, count {}, text {}, byte {} of the output is {:02X}", a.code, a.count, text, i as isize - at as isize, all[i]),
+                None => told,
+                Some(i) => format!("{}, byte {} of the output is {:02X}", told, i as isize - at as isize, all[i]),
             }
         };
         Some(Difference { entry: name, out_len: Some(out_len), ours: show(answer, now), rust: show(want, &good) })
     }
 
-    fn lengths(&self, result: Result<&[u8], u32>) -> Vec<usize> {
+    fn lengths(&self, result: Result<(&[u8], u32), u32>) -> Vec<usize> {
         let n = match result {
             Err(_) => (self.turn * 7) % 341,
-            Ok(text) => text.len(),
+            Ok((text, _)) => text.len(),
         };
         let mut all = vec![n, 0, n + 1, ROOM, 400];
         if n > 0 {
@@ -181,14 +186,18 @@ impl Checker {
             let show = |k: KindAnswer| format!("code {}, kind {}", k.code, k.kind);
             return Some(Difference { entry: "kind", out_len: None, ours: show(kind), rust: show(want) });
         }
-        let entries: [Entry; 3] = [arabic_stemmer_stem, arabic_stemmer_normalise, arabic_stemmer_finish];
+        let entries: [&Fn(*mut u8, usize) -> StemAnswer; 3] = [
+            &|out, len| unsafe { arabic_stemmer_stem(p, n, out, len) },
+            &|out, len| unsafe { arabic_stemmer_normalise(p, n, out, len) }.into(),
+            &|out, len| unsafe { arabic_stemmer_finish(p, n, out, len) }.into(),
+        ];
         for i in 0..3 {
             let result = match expected {
                 Expected::Refused(code) => Err(code),
-                Expected::Given { ref texts, .. } => Ok(texts[i].as_bytes()),
+                Expected::Given { endings, ref texts, .. } => Ok((texts[i].as_bytes(), if i == 0 { endings } else { 0 })),
             };
             for out_len in self.lengths(result) {
-                let difference = self.call(NAMES[i], out_len, result, |out, len| unsafe { entries[i](p, n, out, len) });
+                let difference = self.call(NAMES[i], out_len, result, entries[i]);
                 if difference.is_some() {
                     return difference;
                 }
@@ -202,7 +211,7 @@ impl Checker {
 
     /// The version's text with an output of the given length.
     pub fn version(&mut self, out_len: usize, text: &[u8]) -> Option<Difference> {
-        self.call("version", out_len, Ok(text), |out, len| unsafe { arabic_stemmer_version(out, len) })
+        self.call("version", out_len, Ok((text, 0)), |out, len| unsafe { arabic_stemmer_version(out, len) }.into())
     }
 
     /// A word on which the two still differ and from which no letter and no byte can be dropped, with the difference.

@@ -285,7 +285,7 @@ fn in_spellings(run: &mut Run, words: &mut Words, count: u64) {
                 continue;
             }
             let (defined, texts) = match check::expected(spelt.as_bytes()) {
-                Ok(Expected::Given { defined, texts }) => (defined, texts),
+                Ok(Expected::Given { defined, texts, .. }) => (defined, texts),
                 _ => continue,
             };
             let [stem, own, _] = texts;

@@ -1,6 +1,8 @@
 
 // Appended to a copy of arabic.rs, whose steps are private: the kind after r_Checks1, r_Normalize_pre alone,
-// r_Normalize_post with i_word_len set to the word's number of letters, and the keys of the tables.
+// r_Normalize_post with i_word_len set to the word's number of letters, the number of endings that stem cuts, and the keys of the tables.
+
+use std::cell::Cell;
 
 fn fresh_context() -> Context {
     Context { b_is_defined: false, b_is_verb: true, b_is_noun: true, i_word_len: 0 }
@@ -24,6 +26,21 @@ pub fn finished(word: &str) -> String {
     let mut env = SnowballEnv::create(word);
     r_Normalize_post(&mut env, &mut context);
     env.get_current().into_owned()
+}
+
+thread_local!(static ENDINGS_CUT: Cell<u32> = Cell::new(0));
+
+// Stands in the suffix steps of the copy for `env.slice_del()` (reference/copy).
+fn counted_slice_del(env: &mut SnowballEnv) -> bool {
+    ENDINGS_CUT.with(|n| n.set(n.get() + 1));
+    env.slice_del()
+}
+
+/// How often the suffix steps call slice_del, whether the alternative that called it fails later or not.
+pub fn endings_cut(word: &str) -> u32 {
+    ENDINGS_CUT.with(|n| n.set(0));
+    stem(&mut SnowballEnv::create(word));
+    ENDINGS_CUT.with(|n| n.get())
 }
 
 pub fn keys() -> Vec<Vec<&'static str>> {

@@ -46,7 +46,7 @@ module _ (s : SuffixStep) (w : Word) (limit : ℕ) (f : Found) (b : Behind (suff
 -- ---- an environment at the end of its text
 module _ (e : Env) (v : Cutting) (st : Ends e v) where
   pub cursor-limit : e .cursor ≡ e .limit
-  cursor-limit = st .cursor .1 ∙ ap size (take-length (v .text)) ∙ sym (st .sized)
+  cursor-limit = st .stands .cursor .1 ∙ ap size (take-length (v .text)) ∙ sym (st .stands .sized)
 
 size-some : (w : Word) → 1 ≤ length w → 1 ≤ size w
 unfolding encode
@@ -102,28 +102,41 @@ module _ (s : SuffixStep) (v : Cutting) (x : Env) (st : Ends x v) (place : ℕ) 
     begins =
         let l = lengths in
         let p : place ≡ x .limit - size key = at ∙ ap (placeBy s (x .limit)) q in
-        omega (arith, l .2, st .sized)
+        omega (arith, l .2, st .stands .sized)
 
     inside : place < x .limit
     unfolding m key
-    inside = let l = lengths in omega (arith, begins, l .2, st .sized, size-some key (l .1))
+    inside = let l = lengths in omega (arith, begins, l .2, st .stands .sized, size-some key (l .1))
 
-  -- the environment that a cut at the place leaves; bra and ket do not matter
-  module _ (y : Env) (is : (u : Word) → Standing (x .current) place place (x .«limit_backward») (atEnd u) → Stands y (atEnd u)) where
+  -- the environment that a cut at the place leaves, with one ending more where there is one; bra and ket do not matter
+  module _ (y : Env) (is : (u : Word) → Standing (x .current) place place (x .«limit_backward») (atEnd u) → Stands y (atEnd u)) (ends : y .limit ≡ place)
+      (same : place ≡ x .limit → y .endings ≡ x .endings) (more : (place ≡ x .limit → ⊥) → y .endings ≡ x .endings + 1) where
     gives-none : taken (endsWith (v .text)) (suffix s) (length (v .text)) ≡ none → Gives (record { found = not (eqb place (x .limit)); env = y }) (cut s v)
     unfolding cut endingAt
     gives-none q =
         let e : place ≡ x .limit = at ∙ ap (placeBy s (x .limit)) q in
         subst (Gives (record { found = not (eqb place (x .limit)); env = y })) (ap (cutBy s v) (sym q))
-        (record { found = ap not (eq-eqb place (x .limit) e); env = is t (shortened t [] (sym (append-nil t)) st place (e ∙ st .sized)) })
+        (record {
+          found = ap not (eq-eqb place (x .limit) e);
+          env = record {
+            stands = is t (shortened t [] (sym (append-nil t)) (st .stands) place (e ∙ st .stands .sized));
+            counted = same e ∙ st .counted;
+            room = omega (arith, ends, same e, st .room);
+          };
+        })
 
     gives-some : (r : ℕ) → taken (endsWith (v .text)) (suffix s) (length (v .text)) ≡ some r → Gives (record { found = not (eqb place (x .limit)); env = y }) (cut s v)
     unfolding cut cutOff ending m key
     gives-some r q =
+        let n : (place ≡ x .limit → ⊥) = λ e. omega (arith, inside r q) in
         subst (Gives (record { found = not (eqb place (x .limit)); env = y })) (ap (cutBy s v) (sym q))
         (record {
-          found = ap not (ne-eqb place (x .limit) (λ e. omega (arith, inside r q)));
-          env = is (take (m r q) t) (shortened (take (m r q) t) (key r q) (split r q) st place (begins r q));
+          found = ap not (ne-eqb place (x .limit) n);
+          env = record {
+            stands = is (take (m r q) t) (shortened (take (m r q) t) (key r q) (split r q) (st .stands) place (begins r q));
+            counted = omega (arith, more n, st .counted);
+            room = omega (arith, ends, more n, inside r q, st .room);
+          };
         })
 
     pub cuts : Gives (record { found = not (eqb place (x .limit)); env = y }) (cut s v)

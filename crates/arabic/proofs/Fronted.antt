@@ -264,7 +264,7 @@ module _ (s : PrefixStep) (w : Fronting) (x : Env) (st : Fronts x w) (f : FoundF
 
         -- the environment whose cut is made, and that it stands for the text
         abbrev marked : Env
-        marked = record { cursor = f .cursor; limit = x .limit; «limit_backward» = x .«limit_backward»; bra = x .cursor; ket = f .cursor; current = x .current }
+        marked = record { cursor = f .cursor; limit = x .limit; «limit_backward» = x .«limit_backward»; bra = x .cursor; ket = f .cursor; current = x .current; endings = x .endings }
 
         abbrev behind : ℕ → ℕ
         behind r = cursorOf w + length (rowAt (prefix s .table) r .letters)

@@ -1,8 +1,9 @@
 -- Between the items the cursor goes to the end of the text, and back to the front. Assumes nothing.
-use mathlib.Core.Path.{refl, sym, ap, _∙_}
+use mathlib.Core.Path.{_≡_, refl, sym, ap, _∙_}
 use native.Mathlib.Omega.{arith}
 use lib.Seq.{take-length}
 use Rattle.definition.specs.Words.{Word}
+use Rattle.definition.specs.Endings.{uncut}
 use Rattle.definition.specs.Fronts.{Fronting, text}
 use Rattle.definition.specs.Fronts as definition
 use Rattle.utf8.specs.Utf8.{encode}
@@ -11,7 +12,7 @@ use Rattle.utf8.proofs.Places.{zero-byte}
 use Rattle.snowball.specs.declared.env.Env.{Env}
 use Rattle.snowball.specs.Chars.{started}
 use Rattle.snowball.specs.Stands.{Standing, Stands}
-use Rattle.arabic.specs.Endings.{atEnd}
+use Rattle.arabic.specs.Endings.{atEnd, Ends}
 use Rattle.arabic.specs.Fronts.{Fronts}
 
 module _ (x : Env) (w : Word) where
@@ -24,6 +25,10 @@ module _ (x : Env) (w : Word) where
     cursor = (omega arith, st .sized ∙ ap size (sym (take-length w)));
     back = st .cursor;
   }
+
+  -- where the endings begin none is cut
+  pub none-cut : Stands x (atEnd w) → x .endings ≡ 0 → Ends x (uncut w)
+  none-cut st z = record { stands = st; counted = z; room = omega (arith, z, st .within) }
 
   pub to-front : Stands x (atEnd w) → Standing (x .current) (x .limit) (x .«limit_backward») (x .«limit_backward») (started w)
   to-front st = record { scalars = st .scalars; bytes = st .bytes; sized = st .sized; within = st .within; cursor = st .back; back = st .back }

@@ -2,6 +2,7 @@
 use mathlib.Core.Path.{_≡_, refl, sym, _∙_}
 use mathlib.Core.Bool.{true, false, false≢true}
 use mathlib.Core.List.{[], _∷_}
+use Prim.Native.Nat.{ℕ}
 use lib.ListN.{length}
 use Rattle.definition.specs.Tries.{Try, done, failed, Step, after, andThen, ifFailed, nothing, _thenTry_, attempt, again, firstOf}
 use Rattle.definition.specs.Endings.{Cutting, uncut, cut, verbStep1, verbStep2a, verbStep2b, verbStep2c, nounStep1b, nounStep2a, nounStep2b, nounStep2c1, nounStep3, verb, noun, endings, suffixAllAlefMaqsura, maqsuraIfFailed}
@@ -79,16 +80,20 @@ pub endings-is : (k : Kind) (w : Word) → ifFailed (ifOpen k verb (uncut w)) (n
 unfolding endings
 endings-is k w = sym (first-from (ifOpen k verb) (noun k ∷ []) (uncut w))
 
-pub maqsura-done : (t : Tried) (y : Try Cutting) → Gives t y → t .found ≡ true → Stands (t .env) (atEnd (maqsuraIfFailed y (after y .text)))
+-- what the noun and the verb leave with y, and how many endings were cut
+abbrev Left : Env → ℕ → Try Cutting → Type 0
+Left e n y = Stands e (atEnd (maqsuraIfFailed y (after y .text))) × (n ≡ length (after y .cuts))
+
+pub maqsura-done : (t : Tried) (y : Try Cutting) → Gives t y → t .found ≡ true → Left (t .env) (t .env .endings) y
 unfolding maqsuraIfFailed
-maqsura-done t (done v) g e = g .env
+maqsura-done t (done v) g e = (g .env .stands, g .env .counted)
 maqsura-done t (failed v) g e = absurd (false≢true (sym (g .found) ∙ e))
 
 pub maqsura-failed : (t : Tried) (r : Env) (y : Try Cutting) → Gives t y → t .found ≡ false
-    → ((w : Word) → Stands (t .env) (atEnd w) → Stands r (atEnd (suffixAllAlefMaqsura w))) → Stands r (atEnd (maqsuraIfFailed y (after y .text)))
+    → ((w : Word) → Stands (t .env) (atEnd w) → Stands r (atEnd (suffixAllAlefMaqsura w))) → Left r (t .env .endings) y
 unfolding maqsuraIfFailed
 maqsura-failed t r (done v) g e f = absurd (false≢true (sym e ∙ g .found))
-maqsura-failed t r (failed v) g e f = f (v .text) (g .env)
+maqsura-failed t r (failed v) g e f = (f (v .text) (g .env .stands), g .env .counted)
 
 -- ---- item 4
 pub ready-front : (t : Tried) → GivenFront t → ReadyFront (t .env)

@@ -30,7 +30,7 @@ module _ (k : SuffixStep) (e : Env) (t : Tried) (g : (v : Cutting) → Ends e v 
       let c = cut-takes k v (sym (s .found) ∙ d) in
       let a : size (after (cut k v) .text) ≡ size (take (c .0) (v .text)) = ap size (c .2) in
       let b : size (take (length (v .text)) (v .text)) ≡ size (v .text) = ap size (take-length (v .text)) in
-      omega (arith, s .env .sized, r .1 .sized, size-strict (v .text) (c .0) (length (v .text)) (c .1) (omega arith))
+      omega (arith, s .env .stands .sized, r .1 .stands .sized, size-strict (v .text) (c .0) (length (v .text)) (c .1) (omega arith))
 
   pub turn-same : t .found ≡ true → (e₀ : Env) → Same k e₀ e → Same k e₀ (t .env)
   turn-same d e₀ f v₀ st n h =

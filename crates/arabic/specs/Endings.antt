@@ -1,5 +1,5 @@
 -- The environments of item 3: the cursor stands at the end of the text, and a search backward may go all the way.
-use Prim.Native.Nat.{ℕ, _-_}
+use Prim.Native.Nat.{ℕ, _+_, _-_, _≤_}
 use mathlib.Core.Path.{_≡_}
 use mathlib.Core.Option.{Option, none, some}
 use lib.ListN.{length}
@@ -11,7 +11,7 @@ use Rattle.definition.specs.StepRow.{ofEnding, stepRow}
 use Rattle.utf8.specs.Places.{size}
 use Rattle.snowball.specs.declared.env.Env.{Env}
 use Rattle.snowball.specs.Chars.{Chars}
-use Rattle.snowball.specs.Stands.{Stands}
+use Rattle.snowball.specs.Stands.{workSize, Stands}
 use Rattle.arabic.specs.declared.tried.Tried.{Tried}
 use Rattle.arabic.specs.declared.suffix_halves.FoundEnding.{FoundEnding}
 use Rattle.arabic.specs.Tried.{Answers}
@@ -19,8 +19,11 @@ use Rattle.arabic.specs.Tried.{Answers}
 abbrev pub atEnd : Word → Chars
 atEnd w = record { text = w; cursor = length w; back = 0 }
 
-abbrev pub Ends : Env → Cutting → Type 0
-Ends e v = Stands e (atEnd (v .text))
+-- the environment has the letters that are left and the number of the endings cut, each of which took a byte at least
+pub record Ends (e : Env) (v : Cutting) : Type 0 where
+  pub stands : Stands e (atEnd (v .text))
+  pub counted : e .endings ≡ length (v .cuts)
+  pub room : e .limit + e .endings ≤ workSize
 
 abbrev pub Ready : Env → Type 0
 Ready e = (v : Cutting) × Ends e v

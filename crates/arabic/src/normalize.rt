@@ -171,6 +171,7 @@ pub fn r_Normalize_pre(env: Env) -> Env
         bra: 0,
         ket: end,
         current: text,
+        endings: 0,
     }
 }
 

@@ -57,8 +57,8 @@ pub fn ending(
     FoundEnding { row, place: limit }
 }
 
-// Deletes the ending that was found: what slice_del does at the end of the text, where no byte moves. Where it begins at that end the
-// step fails, and the text is as it was.
+// Deletes the ending that was found, and counts it: what slice_del does at the end of the text, where no byte moves. Where it begins at
+// that end the step fails, and the text is as it was.
 pub fn cut_ending(env: Env, f: FoundEnding) -> Searched
     requires { ⌜ Ready env × (f .place ≤ env .limit) ⌝ }
     ensures { λ r. ⌜ ((s : SuffixStep) (v : Cutting) → Ends env v → TakesEnding s (v .text) (env .limit) f
@@ -67,6 +67,9 @@ pub fn cut_ending(env: Env, f: FoundEnding) -> Searched
     let place = f.place;
     let found = place != env.limit;
     let mut e = env;
+    if found {
+        e.endings += 1;
+    }
     e.ket = e.limit;
     e.bra = place;
     e.limit = place;

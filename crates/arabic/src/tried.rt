@@ -21,6 +21,12 @@ pub struct Searched {
     pub tried: Tried,
 }
 
+// An environment, and how many endings were cut on the way to it.
+pub struct Counted {
+    pub endings: u32,
+    pub env: Env,
+}
+
 // The least number of letters for a class, from class 1 on; 0 for a class that has none.
 pub fn least_letters(guards: &[u8], class: u8) -> usize
     ensures { λ r. ⌜ r ≡ leastLetters (now (guards .entry)) class ⌝ }

@@ -5,13 +5,21 @@ ghost use lib.ListN.{length};
 ghost use Rattle.definition.specs.Normal.{normalise};
 ghost use Rattle.definition.specs.Finish.{finish};
 ghost use Rattle.definition.specs.Stem.{stem};
-ghost use Rattle.stemmer.specs.Entries.{enoughRoom, bytesOf, fitting, answer, outAfter, kindAnswer, Demand3After, version};
-ghost use Rattle.arabic_stemmer.specs.Interface.{told, number, toldKind};
+ghost use Rattle.stemmer.specs.Entries.{enoughRoom, bytesOf, fitting, answer, outAfter, kindAnswer, Demand3After, FewEndingsOf, version, stemEntry};
+ghost use Rattle.arabic_stemmer.specs.Interface.{told, toldStem, number, toldKind};
 
 // Code 0 and the number of bytes written, or a refusal's code and 0.
 #[repr(C)]
 pub struct Answer {
     pub code: u32,
+    pub count: usize,
+}
+
+// The same with the number of endings cut, 0 with a refusal.
+#[repr(C)]
+pub struct StemAnswer {
+    pub code: u32,
+    pub endings: u32,
     pub count: usize,
 }
 
@@ -39,16 +47,24 @@ fn number_of(defined: bool) -> u32
     if defined { 1 } else { 0 }
 }
 
-// The stem of the word.
+// The stem of the word, and how many endings were cut.
 #[no_mangle]
-pub extern "C" fn arabic_stemmer_stem(word: &[u8], out: &mut [u8]) -> Answer
-    ensures { λ r. ⌜ r ≡ told (answer stem (now (word .entry)) (length (now (out .entry)))) ⌝ }
+pub extern "C" fn arabic_stemmer_stem(word: &[u8], out: &mut [u8]) -> StemAnswer
+    ensures { λ r. ⌜ r ≡ toldStem (stemEntry (now (word .entry)) (length (now (out .entry)))) ⌝ }
     ensures { λ r. ⌜ now (out .exit) ≡ outAfter (answer stem (now (word .entry)) (length (now (out .entry)))) (bytesOf stem (now (word .entry))) (now (out .entry)) ⌝ }
     ensures { λ r. ⌜ Demand3After (now (word .entry)) (answer stem (now (word .entry)) (length (now (out .entry)))) (now (out .exit)) ⌝ }
+    ensures { λ r. ⌜ FewEndingsOf (now (word .entry)) (r .endings) ⌝ }
     ensures { λ r. ⌜ (r .code ≡ 3 → length (now (out .entry)) < enoughRoom) ⌝ }
 {
-    let a = stemmer::stem(word, out);
-    answer_of(a)
+    let s = stemmer::stem(word, out);
+    let endings = s.endings;
+    let given = s.answer;
+    let a = answer_of(given);
+    StemAnswer {
+        code: a.code,
+        endings,
+        count: a.count,
+    }
 }
 
 // The word normalised.

@@ -1,9 +1,9 @@
--- A defined word loses at most four letters behind, and some cuts are in defined words only: where they would be made, the verb, which an open word tries before, succeeds. Assumes nothing.
+-- A defined word loses at most four letters and three endings behind, and some cuts are in defined words only: where they would be made, the verb, which an open word tries before, succeeds. Assumes nothing.
 use mathlib.Core.Path.{_≡_, refl, sym, subst}
 use mathlib.Core.Bool.{Bool, true}
 use mathlib.Core.List.{List, [], _∷_, reverseAux}
 use mathlib.Core.Option.{some}
-use Prim.Native.Nat.{ℕ, _+_, _≤_}
+use Prim.Native.Nat.{ℕ, _+_, _≤_, _<_}
 use native.Mathlib.Omega.{arith}
 use lib.Dec.{leb}
 use lib.ListN.{length, length-append}
@@ -21,68 +21,110 @@ use Rattle.definition.specs.Facts.{Idle, AllCuts}
 use Rattle.definition.specs.Depends.{yehRow, OnlyDefined}
 use Rattle.definition.proofs.Found.{taken-some, all-at}
 use Rattle.definition.proofs.Triples.{Ends, Does, Keeps, ends-after, weaker, does-then, does-or, does-last}
-use Rattle.definition.proofs.Cutting.{Verbal, cut-at, cut-does, verb-keeps}
+use Rattle.definition.proofs.Cutting.{Verbal, Nominal, cut-at, cut-does, verb-keeps}
 use Rattle.definition.proofs.Cover.{covers, cover}
 use Rattle.definition.proofs.Verb.{coveredByVerb, verb-failed, verb-idle, verb-done, not-by-verb}
 
--- ---- how many letters go behind
+-- ---- how much goes behind
 
--- at most l letters are cut
-abbrev Lost : ℕ → Cutting → Type 0
-Lost l v = length (joined (v .cuts)) ≤ l
+-- the most that a cut of the step adds to what is gone, where Step2b adds b and any other step of the noun 1
+abbrev adds : ℕ → SuffixStep → ℕ
+adds b verbStep1 = 0
+adds b verbStep2a = 0
+adds b verbStep2b = 0
+adds b verbStep2c = 0
+adds b nounStep1b = 1
+adds b nounStep2a = 1
+adds b nounStep2b = b
+adds b nounStep2c1 = 1
+adds b nounStep2c2 = 1
+adds b nounStep3 = 1
 
--- the row has at most m letters
+-- what is gone, in letters or in endings, and the most that a cut adds to it
+module _ (gone : List Cut → ℕ) (b : ℕ) (some1 : 1 ≤ b) (none1 : gone [] ≡ 0)
+    (more : (s : SuffixStep) → Nominal s → (r : ℕ) → r < length (suffix s .table) → (cs : List Cut) → gone (record { step = s; row = r } ∷ cs) ≤ gone cs + adds b s) where
+  abbrev Gone : ℕ → Cutting → Type 0
+  Gone l v = gone (v .cuts) ≤ l
+
+  -- with at most l gone before a step, at most d are where it cuts, and at most f where it fails
+  cut-gone : (l d f : ℕ) (s : SuffixStep) → Nominal s → l + adds b s ≤ d → l ≤ f → Does (Gone l) (Gone d) (Gone f) (cut s)
+  unfolding cutOff
+  cut-gone l d f s nominal hd hf v p =
+      weaker (Gone d) (Gone l) (Gone d) (Gone f) (λ x q. q) (λ x q. omega (arith, q)) (cut s v)
+      (cut-does (Gone l) (Gone d) s (λ u r e h. omega (arith, h, more s nominal r (taken-some (endsWith (u .text)) (suffix s) (length (u .text)) r e .inside) (u .cuts))) v p)
+
+  -- one more alternative that is such a step
+  or-gone : (l d f : ℕ) (s : SuffixStep) (fs : List (Step Cutting)) → Nominal s → l + adds b s ≤ d
+      → Does (Gone l) (Gone d) (Gone f) (firstOf fs) → Does (Gone l) (Gone d) (Gone f) (firstOf (cut s ∷ fs))
+  or-gone l d f s fs nominal hd = does-or (Gone l) (Gone d) (Gone f) (Gone l) (cut s) fs (cut-gone l d l s nominal hd (omega arith))
+
+  -- Step1b takes 1, and its sequel b at most
+  step1b-gone : Does (Gone 0) (Gone (1 + b)) (Gone 1) nounByStep1b
+  step1b-gone = does-then (Gone 0) (Gone (1 + b)) (Gone 1) (Gone 1) (cut nounStep1b) (firstOf afterNounStep1b) (cut-gone 0 1 1 nounStep1b (λ z. z) (omega arith) (omega arith))
+      (or-gone 1 (1 + b) 1 nounStep2a _ (λ z. z) (omega arith)
+      (or-gone 1 (1 + b) 1 nounStep2b _ (λ z. z) (omega arith)
+      (or-gone 1 (1 + b) 1 nounStep2c1 [] (λ z. z) (omega arith)
+      (does-last (Gone 1) (Gone (1 + b))))))
+
+  -- where Step1b and Step2b have taken 1 + b, Step3 takes 1 more
+  noun-gone : Does (Gone 0) (Gone (2 + b)) (Gone (2 + b)) (noun DEFINED)
+  unfolding noun
+  noun-gone = does-then (Gone 0) (Gone (2 + b)) (Gone (2 + b)) (Gone (1 + b)) _ (cut nounStep3)
+      (or-gone 0 (1 + b) (2 + b) nounStep2c2 _ (λ z. z) (omega arith)
+      (does-or (Gone 0) (Gone (1 + b)) (Gone (2 + b)) (Gone 1) nounByStep1b _ step1b-gone
+      (does-or (Gone 1) (Gone (1 + b)) (Gone (2 + b)) (Gone 1) (ifOpen DEFINED (cut nounStep2a)) _ (λ v h. h)
+      (or-gone 1 (1 + b) (2 + b) nounStep2b _ (λ z. z) (omega arith)
+      (does-or (Gone 1) (Gone (1 + b)) (Gone (2 + b)) (Gone (2 + b)) nothing [] (λ v h. omega (arith, h)) (does-last (Gone (2 + b)) (Gone (1 + b))))))))
+      (cut-gone (1 + b) (2 + b) (2 + b) nounStep3 (λ z. z) (omega arith) (omega arith))
+
+  at-most : (w : Word) → kind w ≡ DEFINED → gone (cuts w) ≤ 2 + b
+  unfolding cuts cutting endings
+  at-most w e = subst (λ (k : Kind). gone (cutting k (normalise w) .cuts) ≤ 2 + b) (sym e)
+      (ends-after (Gone (2 + b)) (endings DEFINED (normalise w))
+      (does-or (Gone 0) (Gone (2 + b)) (Gone (2 + b)) (Gone 0) (ifOpen DEFINED verb) (noun DEFINED ∷ []) (λ v h. h)
+      (does-or (Gone 0) (Gone (2 + b)) (Gone (2 + b)) (Gone (2 + b)) (noun DEFINED) [] noun-gone (does-last (Gone (2 + b)) (Gone (2 + b))))
+      (uncut (normalise w)) (omega (arith, none1))))
+
+-- in letters: the rows of Step2b have two letters, those of the others one
 abbrev within : ℕ → Row → Bool
 within m k = leb (length (k .letters)) m
 
--- a step whose rows have at most m letters: of l letters cut before it, at most d are cut where it cuts, and at most f where it fails
-cut-lost : (l d f m : ℕ) (s : SuffixStep) → every (within m) (suffix s .table) ≡ true → l + m ≤ d → l ≤ f → Does (Lost l) (Lost d) (Lost f) (cut s)
-unfolding cutOff ending joined
-cut-lost l d f m s rows hd hf v p =
-    weaker (Lost d) (Lost l) (Lost d) (Lost f) (λ x q. q) (λ x q. omega (arith, q)) (cut s v)
-    (cut-does (Lost l) (Lost d) s cut-more v p)
-  where
-    cut-more : (u : Cutting) (r : ℕ) → taken (endsWith (u .text)) (suffix s) (length (u .text)) ≡ some r → Lost l u → Lost d (cutOff u (record { step = s; row = r }))
-    cut-more u r e h =
-        let key : Word = rowAt (suffix s .table) r .letters in
-        let t = leb-true (length key) m (all-at (within m) (suffix s .table) rows r (taken-some (endsWith (u .text)) (suffix s) (length (u .text)) r e .inside)) in
-        omega (arith, length-append key (joined (u .cuts)))
-
--- one more alternative that is such a step
-or-lost : (l d f m : ℕ) (s : SuffixStep) (fs : List (Step Cutting)) → every (within m) (suffix s .table) ≡ true → l + m ≤ d
-    → Does (Lost l) (Lost d) (Lost f) (firstOf fs) → Does (Lost l) (Lost d) (Lost f) (firstOf (cut s ∷ fs))
-or-lost l d f m s fs rows hd = does-or (Lost l) (Lost d) (Lost f) (Lost l) (cut s) fs (cut-lost l d l m s rows hd (omega arith))
-
--- Step1b takes a letter, and its sequel two at most
-step1b-lost : Does (Lost 0) (Lost 3) (Lost 1) nounByStep1b
-unfolding suffix «A_11» «A_12» «A_13» «A_14»
-step1b-lost = does-then (Lost 0) (Lost 3) (Lost 1) (Lost 1) (cut nounStep1b) (firstOf afterNounStep1b) (cut-lost 0 1 1 1 nounStep1b refl (omega arith) (omega arith))
-    (or-lost 1 3 1 1 nounStep2a _ refl (omega arith)
-    (or-lost 1 3 1 2 nounStep2b _ refl (omega arith)
-    (or-lost 1 3 1 1 nounStep2c1 [] refl (omega arith)
-    (does-last (Lost 1) (Lost 3)))))
-
--- where Step1b and Step2b have taken three, Step3 takes the fourth
-noun-lost : Does (Lost 0) (Lost 4) (Lost 4) (noun DEFINED)
-unfolding noun suffix «A_13» «A_15» «A_16»
-noun-lost = does-then (Lost 0) (Lost 4) (Lost 4) (Lost 3) _ (cut nounStep3)
-    (or-lost 0 3 4 1 nounStep2c2 _ refl (omega arith)
-    (does-or (Lost 0) (Lost 3) (Lost 4) (Lost 1) nounByStep1b _ step1b-lost
-    (does-or (Lost 1) (Lost 3) (Lost 4) (Lost 1) (ifOpen DEFINED (cut nounStep2a)) _ (λ v h. h)
-    (or-lost 1 3 4 2 nounStep2b _ refl (omega arith)
-    (does-or (Lost 1) (Lost 3) (Lost 4) (Lost 4) nothing [] (λ v h. omega (arith, h)) (does-last (Lost 4) (Lost 3)))))))
-    (cut-lost 3 4 4 1 nounStep3 refl (omega arith) (omega arith))
-
-defined-lost : (n : Word) → Lost 4 (cutting DEFINED n)
-unfolding cutting endings joined
-defined-lost n = ends-after (Lost 4) (endings DEFINED n)
-    (does-or (Lost 0) (Lost 4) (Lost 4) (Lost 0) (ifOpen DEFINED verb) (noun DEFINED ∷ []) (λ v h. h)
-    (does-or (Lost 0) (Lost 4) (Lost 4) (Lost 4) (noun DEFINED) [] noun-lost (does-last (Lost 4) (Lost 4)))
-    (uncut n) (omega arith))
+rows-within : (s : SuffixStep) → Nominal s → every (within (adds 2 s)) (suffix s .table) ≡ true
+unfolding suffix «A_11» «A_12» «A_13» «A_14» «A_15» «A_16»
+rows-within verbStep1 z = absurd (z tt)
+rows-within verbStep2a z = absurd (z tt)
+rows-within verbStep2b z = absurd (z tt)
+rows-within verbStep2c z = absurd (z tt)
+rows-within nounStep1b z = refl
+rows-within nounStep2a z = refl
+rows-within nounStep2b z = refl
+rows-within nounStep2c1 z = refl
+rows-within nounStep2c2 z = refl
+rows-within nounStep3 z = refl
 
 pub at-most-four : (w : Word) → kind w ≡ DEFINED → length (back w) ≤ 4
-unfolding back cuts
-at-most-four w e = subst (λ (k : Kind). length (joined (cutting k (normalise w) .cuts)) ≤ 4) (sym e) (defined-lost (normalise w))
+unfolding back joined ending
+at-most-four = at-most (λ cs. length (joined cs)) 2 (omega arith) refl
+    (λ s nominal r h cs.
+    let key : Word = rowAt (suffix s .table) r .letters in
+    let t = leb-true (length key) (adds 2 s) (all-at (within (adds 2 s)) (suffix s .table) (rows-within s nominal) r h) in
+    omega (arith, t, length-append key (joined cs)))
+
+-- in endings
+more-one : (s : SuffixStep) → Nominal s → 1 ≤ adds 1 s
+more-one verbStep1 z = absurd (z tt)
+more-one verbStep2a z = absurd (z tt)
+more-one verbStep2b z = absurd (z tt)
+more-one verbStep2c z = absurd (z tt)
+more-one nounStep1b z = omega arith
+more-one nounStep2a z = omega arith
+more-one nounStep2b z = omega arith
+more-one nounStep2c1 z = omega arith
+more-one nounStep2c2 z = omega arith
+more-one nounStep3 z = omega arith
+
+pub at-most-three : (w : Word) → kind w ≡ DEFINED → length (cuts w) ≤ 3
+at-most-three = at-most length 1 (omega arith) refl (λ s nominal r h cs. omega (arith, more-one s nominal))
 
 -- ---- which cuts an open word has
 

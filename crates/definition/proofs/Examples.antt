@@ -13,6 +13,7 @@ use Rattle.definition.specs.Finish.{last, other, finish}
 use Rattle.definition.specs.Stem.{cutting, fronting, stemOf, stem, cuts, chain, back, applied}
 use Rattle.definition.specs.Examples.{computed, twelve, work, examples, samples, normalised, normalSamples}
 use Rattle.definition.specs.Depends.{OneWordTwoKinds, DefinedCuts, OpenCuts}
+use Rattle.definition.specs.Number.{counted, numberSamples}
 
 pub examples-right : (map computed twelve ≡ twelve) × (map work examples ≡ examples) × (map computed samples ≡ samples) × (map normalised normalSamples ≡ normalSamples)
 unfolding same beginsWith endsWith longer longest met taken _thenTry_ firstOf again attempt «A_0» «A_3» «A_4» «A_5» «A_6» «A_7» «A_8» «A_9» «A_11» «A_12» «A_13» «A_14» «A_15» «A_16» «A_17» «A_18» «A_19» «A_20» kind gives listedFor given normal normalise suffix ending cutOff cut verb noun endings suffixAllAlefMaqsura maqsuraIfFailed prefix replacements notAt frontRow replacement change apply prefixSteps started fronts last other finish cutting fronting stemOf stem cuts chain applied computed twelve work examples samples normalised normalSamples
@@ -27,3 +28,9 @@ depends-right = (
   record { four = (refl, refl); size = refl; fifth = (refl, refl); step1b = (refl, refl); step2b = (refl, refl); step2c1 = (refl, refl); step2a = (refl, refl) },
   record { endsNoon = (refl, refl); endsKafNoon = (refl, refl); endsAlefTeh = (refl, refl); endsTehNoon = (refl, refl); endsYeh = (refl, refl) },
 )
+
+-- ---- how many endings are cut
+
+pub numbers-right : map counted numberSamples ≡ numberSamples
+unfolding same beginsWith endsWith longer longest met taken _thenTry_ firstOf again «A_0» «A_3» «A_11» «A_12» «A_13» «A_14» «A_15» «A_16» «A_17» «A_18» «A_19» «A_20» kind gives listedFor given normal normalise suffix ending cutOff cut verb noun endings cutting cuts chain counted numberSamples
+numbers-right = refl

@@ -30,3 +30,4 @@ pub mod Demand3
 pub mod Only
 pub mod DefinedWords
 pub mod Depends
+pub mod Number

@@ -24,7 +24,8 @@ use Rattle.definition.specs.Examples.{computed, twelve, work, examples, 
 use Rattle.definition.specs.Listed.{checks1, EveryClassListed}
 use Rattle.definition.specs.StepRow.{OneSearch, kindCheck, ofEnding, alefMaqsura, ofFront, tableOf, matchIn, endsEarly, stepRow, rowComputed, rowSamples}
 use Rattle.definition.specs.Depends.{SameWay, OneWordTwoKinds, yehRow, OnlyDefined, DefinedCuts, OpenCuts}
-use Rattle.definition.proofs.Examples.{examples-right, depends-right}
+use Rattle.definition.specs.Number.{FewEndings, counted, numberSamples}
+use Rattle.definition.proofs.Examples.{examples-right, depends-right, numbers-right}
 use Rattle.definition.proofs.Finish.{finish-joined, finish-all}
 use Rattle.definition.proofs.Listed.{every-class-listed}
 use Rattle.definition.proofs.Rows.{last-rows, other-rows, maqsura-row}
@@ -38,6 +39,7 @@ use Rattle.definition.proofs.Again.{again-ends}
 use Rattle.definition.proofs.NoonAlef.{no-noon-alef}
 use Rattle.definition.proofs.DefinedWords.{at-most-four, only-these, only-defined, verb-before}
 use Rattle.definition.proofs.Depends.{stem-of, same-way}
+use Rattle.definition.proofs.Number.{few-endings}
 use Rattle.definition.proofs.Only.{demand3-only, no-cuts}
 use Rattle.definition.proofs.Demand3.{demand3}
 
@@ -198,6 +200,16 @@ main-defined-cuts = depends-right .1
 
 pub main-open-cuts : OpenCuts
 main-open-cuts = depends-right .2
+
+-- ---- how many endings are cut (request A12)
+
+-- n - 2 at most for a normalised word of n letters, none below 3, and 3 at most in a defined word
+pub main-number : (w : Word) → FewEndings w (length (chain w))
+main-number = few-endings
+
+-- words that have so many
+pub main-number-samples : map counted numberSamples ≡ numberSamples
+main-number-samples = numbers-right
 
 -- ---- finishing
 

@@ -16,3 +16,4 @@ pub mod Demand3
 pub mod Facts
 pub mod StepRow
 pub mod Depends
+pub mod Number

@@ -4,6 +4,7 @@ use libc::STDOUT_FILENO;
 use stemmer::Answer;
 use stemmer::LONGEST;
 use stemmer::ROOM;
+use stemmer::StemAnswer;
 ghost use mathlib.Core.Path.{_≡_};
 ghost use Prim.Native.Nat.{_<_, _≤_};
 ghost use lib.ListN.{length};
@@ -44,6 +45,13 @@ fn write_answer(a: Answer) {
     }
 }
 
+fn write_stem_answer(s: StemAnswer) {
+    let a = s.answer;
+    write_answer(a);
+    write(b" ");
+    io::print_decimal(STDOUT_FILENO, s.endings as u64);
+}
+
 // An output before a call, with the bytes behind it: no two neighbours are alike, and no other part of it begins as the front does.
 fn filled() -> [u8; SPACE]
     ensures { λ r. ⌜ space ≡ length r ⌝ }
@@ -73,8 +81,8 @@ fn stem(name: &[u8], word: &[u8], room: usize)
 {
     write(name);
     let mut out = filled();
-    let a = stemmer::stem(word, &mut out[..room]);
-    write_answer(a);
+    let s = stemmer::stem(word, &mut out[..room]);
+    write_stem_answer(s);
     write_rest(&out, room);
 }
 
@@ -224,6 +232,32 @@ fn empty_parts() {
     stem_part(b"part, a mark alone, room for 4: ", b"!", 4);
 }
 
+// How many endings were cut: one of three letters, three of a defined word, four of seven letters, one by an alternative that fails
+// behind it; and none with a refusal.
+fn endings() {
+    stem(b"stem, 0628 0646 064A: ", b"\xD8\xA8\xD9\x86\xD9\x8A", 4);
+    stem(
+        b"stem, 0628 0646 064A, room for 3: ",
+        b"\xD8\xA8\xD9\x86\xD9\x8A",
+        3,
+    );
+    stem(
+        b"stem, 0627 0644 064A 0627 062A 0646: ",
+        b"\xD8\xA7\xD9\x84\xD9\x8A\xD8\xA7\xD8\xAA\xD9\x86",
+        4,
+    );
+    stem(
+        b"stem, 7 times 0647: ",
+        b"\xD9\x87\xD9\x87\xD9\x87\xD9\x87\xD9\x87\xD9\x87\xD9\x87",
+        6,
+    );
+    stem(
+        b"stem, 0627 0644 0645 0633 0643 0646: ",
+        b"\xD8\xA7\xD9\x84\xD9\x85\xD8\xB3\xD9\x83\xD9\x86",
+        6,
+    );
+}
+
 fn main() {
     let book = b"\xD8\xA7\xD9\x84\xD9\x83\xD8\xAA\xD8\xA7\xD8\xA8";
     too_long();
@@ -235,4 +269,5 @@ fn main() {
     long_parts();
     empty();
     empty_parts();
+    endings();
 }

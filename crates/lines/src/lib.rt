@@ -49,7 +49,8 @@ fn emit(word: &[u8], out: &mut [u8]) -> usize
     ensures { λ r. ⌜ r ≡ length (answerLine (now (word .entry))) ⌝ }
     ensures { λ r. ⌜ now (out .exit) ≡ answerLine (now (word .entry)) ++ drop r (now (out .entry)) ⌝ }
 {
-    let a = stemmer::stem(word, &mut out[..ROOM]);
+    let s = stemmer::stem(word, &mut out[..ROOM]);
+    let a = s.answer;
     match a {
         stemmer::Answer::Done(n) => {
             out[n] = b'\n';

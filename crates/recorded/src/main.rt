@@ -1,6 +1,6 @@
-// Answers every entry for each line of standard input: stem, kind, normalised and finished word, and the row of each step, parted by
-// tabs. A refusal is `?` and its code; the kind is 0 for open and 1 for defined. The answers of the Rust for the same words are stored
-// beside it.
+// Answers every entry for each line of standard input: stem, number of endings, kind, normalised and finished word, and the row of each
+// step, parted by tabs. A refusal is `?` and its code, and 0 endings; the kind is 0 for open and 1 for defined. The answers of the Rust for
+// the same words are stored beside it.
 mod rows;
 
 use libc::STDIN_FILENO;
@@ -48,10 +48,15 @@ fn write_kind(code: u32, defined: bool) {
     write(b"0");
 }
 
-fn answer_entries(word: &[u8], out: &mut [u8]) {
+fn answer_stem(word: &[u8], out: &mut [u8]) {
     let s = stemmer::stem(word, out);
-    write_answer(s, out);
+    let a = s.answer;
+    write_answer(a, out);
     write(b"\t");
+    io::print_decimal(STDOUT_FILENO, s.endings as u64);
+}
+
+fn answer_others(word: &[u8], out: &mut [u8]) {
     let k = stemmer::kind(word);
     let kind = k.kind;
     write_kind(k.code, kind.defined);
@@ -64,7 +69,9 @@ fn answer_entries(word: &[u8], out: &mut [u8]) {
 }
 
 fn answer(word: &[u8], out: &mut [u8]) {
-    answer_entries(word, out);
+    answer_stem(word, out);
+    write(b"\t");
+    answer_others(word, out);
     write(b"\t");
     rows::write_rows(word);
     write(b"\n");

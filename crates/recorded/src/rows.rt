@@ -52,6 +52,7 @@ fn at_end(word: &[u8]) -> Env
     ensures { λ r. ⌜ Ready r ⌝ }
 {
     let mut env = at_front(word);
+    env.endings = 0;
     env.limit_backward = env.cursor;
     env.cursor = env.limit;
     env

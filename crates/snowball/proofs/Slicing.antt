@@ -108,7 +108,7 @@ module _ (e : Env) (cursor : ℕ) (o : e .bra ≤ e .ket) (z : e .ket ≡ e .lim
     (m : cursor ≡ moved (e .cursor) (e .bra) (e .limit) 0) where
   abbrev shortened : Env
   shortened =
-      record { cursor = cursor; limit = e .bra; «limit_backward» = e .«limit_backward»; bra = e .bra; ket = e .ket; current = e .current }
+      record { cursor = cursor; limit = e .bra; «limit_backward» = e .«limit_backward»; bra = e .bra; ket = e .ket; current = e .current; endings = e .endings }
 
   pub cut-tail : Sliced e [] shortened
   unfolding encode

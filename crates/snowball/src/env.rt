@@ -17,7 +17,8 @@ ghost use Rattle.snowball.specs.Bytes.{Created, Replaced};
 pub const WORK_SIZE: usize = 340;
 
 // The Rust's SnowballEnv: a text, and places in it. The text is the first limit bytes of current: in the Rust limit is
-// always the length of current where Arabic is stemmed.
+// always the length of current where Arabic is stemmed. The number of endings that were cut is not in the Rust: a step that
+// cuts adds to it, and the functions here promise nothing of it.
 pub struct Env {
     pub cursor: usize,
     pub limit: usize,
@@ -25,6 +26,7 @@ pub struct Env {
     pub bra: usize,
     pub ket: usize,
     pub current: [u8; WORK_SIZE],
+    pub endings: u32,
 }
 
 // An environment, and whether what was asked for was found in it.
@@ -151,6 +153,7 @@ impl Env {
             bra: 0,
             ket: len,
             current,
+            endings: 0,
         }
     }
 

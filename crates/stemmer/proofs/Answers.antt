@@ -13,17 +13,20 @@ use Rattle.utf8.specs.Utf8.{Scalars, encode, decode, wellFormed}
 use Rattle.utf8.proofs.Main.{main-decodes, main-text}
 use Rattle.definition.specs.Words.{Word, pick}
 use Rattle.definition.specs.Kind.{kind}
-use Rattle.definition.specs.Stem.{stem}
-use Rattle.definition.proofs.Main.{main-demand3}
+use Rattle.definition.specs.Stem.{stem, chain}
+use Rattle.definition.specs.Number.{FewEndings}
+use Rattle.definition.proofs.Main.{main-demand3, main-number}
+use Rattle.definition.proofs.Number.{none-few}
 use Rattle.definition.proofs.Match.{by}
 use Rattle.snowball.specs.Chars.{started}
 use Rattle.snowball.specs.Stands.{Stands}
 use Rattle.snowball.specs.declared.env.Env.{Env}
 use Rattle.stemmer.specs.declared.Answer.{Answer}
 use Rattle.stemmer.specs.declared.Answer.the-variants.{Done, TooLong, NotWellFormed, NoRoom}
+use Rattle.stemmer.specs.declared.StemAnswer.{StemAnswer}
 use Rattle.stemmer.specs.declared.Checked.{Checked}
 use Rattle.stemmer.specs.declared.Checked.the-variants.{Overlong, Malformed, Accepted}
-use Rattle.stemmer.specs.Entries.{codeOf, countOf, mostBytes, enoughRoom, letters, bytesOf, checked, afterChecks, fitting, answer, outAfter, partAfter, kindAfter, kindAnswer, Demand3After}
+use Rattle.stemmer.specs.Entries.{codeOf, countOf, mostBytes, enoughRoom, letters, bytesOf, checked, afterChecks, fitting, answer, outAfter, partAfter, withEndings, kindAfter, kindAnswer, Demand3After, FewEndingsOf, stemEntry}
 
 -- ---- checking: each outcome
 
@@ -172,9 +175,55 @@ owed word old new a e o = λ w d z. (
   ),
 )
 
-pub with-demand3 : (word old : List ℕ) {r : Answer} {new : List ℕ} → Promised stem word old r new
-    → (r ≡ answer stem word (length old)) × ((new ≡ outAfter (answer stem word (length old)) (bytesOf stem word) old) × (Demand3After word r new × (codeOf r ≡ 3 → length old < enoughRoom)))
-with-demand3 word old {r} {new} p = (p .0, (p .1 .0, (owed word old new r (p .0) (p .1 .0), p .1 .1)))
+-- ---- the number of endings
+
+with-answer : (a : Answer) (m : ℕ) → withEndings a m .answer ≡ a
+with-answer (Done n) m = refl
+with-answer TooLong m = refl
+with-answer NotWellFormed m = refl
+with-answer NoRoom m = refl
+
+pub entry-answer : (word : List ℕ) (room : ℕ) → stemEntry word room .answer ≡ answer stem word room
+entry-answer word room = with-answer (answer stem word room) (length (chain (letters word)))
+
+-- it matters with code 0 alone
+pub with-same : (a : Answer) (m n : ℕ) → (codeOf a ≡ 0 → m ≡ n) → withEndings a m ≡ withEndings a n
+with-same (Done k) m n e = ap (withEndings (Done k)) (e refl)
+with-same TooLong m n e = refl
+with-same NotWellFormed m n e = refl
+with-same NoRoom m n e = refl
+
+-- and a refusal's 0 is within every bound
+with-few : (a : Answer) (m : ℕ) (w : Word) → FewEndings w m → FewEndings w (withEndings a m .endings)
+with-few (Done n) m w h = h
+with-few TooLong m w h = none-few w
+with-few NotWellFormed m w h = none-few w
+with-few NoRoom m w h = none-few w
+
+-- what the stem entry promises, from what is promised of code, count and output, and from the number counted
+module _ (word old : List ℕ) where
+  abbrev pub StemPromised : StemAnswer → List ℕ → Type 0
+  StemPromised r new =
+      (r ≡ stemEntry word (length old)) × ((new ≡ outAfter (answer stem word (length old)) (bytesOf stem word) old)
+      × (Demand3After word (r .answer) new × (FewEndingsOf word (r .endings) × (codeOf (r .answer) ≡ 3 → length old < enoughRoom))))
+
+  pub with-endings : {a : Answer} {new : List ℕ} → Promised stem word old a new → (m : ℕ) → (codeOf a ≡ 0 → m ≡ length (chain (letters word))) → StemPromised (withEndings a m) new
+  with-endings {a} {new} p m e =
+      let n : ℕ = length (chain (letters word)) in
+      let q : withEndings a m ≡ withEndings a n = with-same a m n e in (
+        q ∙ ap (λ (x : Answer). withEndings x n) (p .0),
+        (
+          p .1 .0,
+          (
+            subst (λ (x : Answer). Demand3After word x new) (sym (with-answer a m)) (owed word old new a (p .0) (p .1 .0)),
+            (
+              λ w d. subst (FewEndings w) (ap (λ (x : Word). withEndings a (length (chain x)) .endings) (sym (letters-are word w d)) ∙ sym (ap (λ (s : StemAnswer). s .endings) q))
+                  (with-few a (length (chain w)) w (main-number w)),
+              λ z. p .1 .1 (sym (ap codeOf (with-answer a m)) ∙ z),
+            ),
+          ),
+        ),
+      )
 
 -- the part that is handed back: as many bytes of the output as the answer counts
 module _ (f : Word → Word) (word old : List ℕ) where

@@ -10,21 +10,22 @@ use Rattle.definition.specs.Letters.{alef, jeem, lam, heh, waw}
 use Rattle.definition.specs.Words.{Word}
 use Rattle.definition.specs.Kind.{Kind, OPEN, DEFINED, kind}
 use Rattle.definition.specs.Normal.{normalise}
-use Rattle.definition.specs.Stem.{stem}
+use Rattle.definition.specs.Stem.{stem, chain}
 use Rattle.definition.specs.Depends.{inLetters, inForms, withMark}
 use Rattle.definition.proofs.Main.{main-depends, main-kind-needed}
 use Rattle.arabic.specs.Kinds.{flags, kindOf}
 use Rattle.arabic.proofs.Main.{main-grows}
 use Rattle.arabic.proofs.Gives.{normalise-scalars}
 use Rattle.arabic.proofs.Checking.{kind-back}
+use Rattle.stemmer.specs.declared.Answer.{Answer}
 use Rattle.stemmer.specs.declared.Answer.the-variants.{Done}
 use Rattle.stemmer.specs.declared.Checked.{Checked}
 use Rattle.stemmer.specs.declared.Checked.the-variants.{Overlong, Malformed, Accepted}
 use Rattle.stemmer.specs.declared.KindAnswer.{KindAnswer}
-use Rattle.stemmer.specs.Entries.{enoughRoom, countOf, letters, bytesOf, checked, fitting, answer, outAfter, kindAfter, kindAnswer}
+use Rattle.stemmer.specs.Entries.{enoughRoom, codeOf, countOf, letters, bytesOf, checked, fitting, answer, outAfter, withEndings, kindAfter, kindAnswer}
 use Rattle.stemmer.specs.Blocks.{outOf, written}
 use Rattle.stemmer.specs.Depends.{SameKept, SameStem, fifth, sixth, marked, OneWordTwoKinds}
-use Rattle.stemmer.proofs.Answers.{short, scalars, spelling, after, refused-overlong, refused-malformed, part-is}
+use Rattle.stemmer.proofs.Answers.{short, scalars, spelling, after, refused-overlong, refused-malformed, part-is, with-same}
 use Rattle.stemmer.proofs.Blocks.{done, written-done}
 
 -- ---- the kind entry's answer
@@ -48,26 +49,32 @@ kind-told word e = ap (λ (c : Checked). kindOf (kindAfter c (kind (letters word
 
 -- ---- the stem entries
 module _ (u v : List ℕ) where
+  abbrev number : List ℕ → ℕ
+  number word = length (chain (letters word))
+
   -- equal answers and outputs hand back equal parts
-  same-stem : ((room : ℕ) → answer stem u room ≡ answer stem v room) → ((old : List ℕ) → outOf stem u old ≡ outOf stem v old) → SameStem u v
-  same-stem a o = record {
-    answers = a;
+  same-stem : ((room : ℕ) → answer stem u room ≡ answer stem v room) → ((room : ℕ) → codeOf (answer stem v room) ≡ 0 → number u ≡ number v)
+      → ((old : List ℕ) → outOf stem u old ≡ outOf stem v old) → SameStem u v
+  same-stem a n o = record {
+    answers = λ room. ap (λ (x : Answer). withEndings x (number u)) (a room) ∙ with-same (answer stem v room) (number u) (number v) (n room);
     outputs = o;
     parts = λ old. sym (part-is stem u old) ∙ (λ i. take (countOf (a (length old) i)) (o old i)) ∙ part-is stem v old;
   }
 
-  -- both refused, or both accepted with the same stem
-  by-checks : (c : Checked) → checked u ≡ c → checked v ≡ c → (c ≡ Accepted → bytesOf stem u ≡ bytesOf stem v) → SameStem u v
+  -- both refused, or both accepted with the same stem and as many endings
+  by-checks : (c : Checked) → checked u ≡ c → checked v ≡ c → (c ≡ Accepted → (bytesOf stem u ≡ bytesOf stem v) × (number u ≡ number v)) → SameStem u v
   by-checks Overlong d e f = same-stem
       (λ room. sym (after stem u room Overlong d) ∙ after stem v room Overlong e)
+      (λ room z. absurd (omega (arith, ap codeOf (after stem v room Overlong e))))
       (λ old. sym (refused-overlong stem u old d .1 .0) ∙ refused-overlong stem v old e .1 .0)
   by-checks Malformed d e f = same-stem
       (λ room. sym (after stem u room Malformed d) ∙ after stem v room Malformed e)
+      (λ room z. absurd (omega (arith, ap codeOf (after stem v room Malformed e))))
       (λ old. sym (refused-malformed stem u old d .1 .0) ∙ refused-malformed stem v old e .1 .0)
-  by-checks Accepted d e f = same-stem answers (λ old. (λ i. outAfter (answers (length old) i) (f refl i) old))
+  by-checks Accepted d e f = same-stem answers (λ room z. f refl .1) (λ old. (λ i. outAfter (answers (length old) i) (f refl .0 i) old))
     where
       answers : (room : ℕ) → answer stem u room ≡ answer stem v room
-      answers room = sym (after stem u room Accepted d) ∙ ap (λ (bs : List ℕ). fitting (length bs) room) (f refl) ∙ after stem v room Accepted e
+      answers room = sym (after stem u room Accepted d) ∙ ap (λ (bs : List ℕ). fitting (length bs) room) (f refl .0) ∙ after stem v room Accepted e
 
 -- ---- what is kept
 
@@ -88,7 +95,8 @@ kept-stem u v old old′ s = by-checks u v (checked v) both refl (λ e.
     let d : checked u ≡ Accepted = both ∙ e in
     let q : bytesOf normalise u ≡ bytesOf normalise v = sym (all-written u old d (s .room)) ∙ s .bytes ∙ all-written v old′ e (s .room′) in
     let k : kind (letters u) ≡ kind (letters v) = sym (kind-told u d) ∙ ap kindOf (s .kinds) ∙ kind-told v e in
-    ap encode (main-depends (letters u) (letters v) (same-letters u v d e q) k .stems))
+    let w = main-depends (letters u) (letters v) (same-letters u v d e q) k in
+    (ap encode (w .stems), ap length (w .chains)))
   where
     both : checked u ≡ checked v
     both = same-checks (checked u) (checked v) (kind (letters u)) (kind (letters v)) (s .codes)

@@ -11,7 +11,7 @@ use Rattle.definition.specs.Stem.{stem}
 use Rattle.definition.specs.Depends.{inLetters, inForms, withMark}
 use Rattle.arabic.specs.Kinds.{flags}
 use Rattle.stemmer.specs.declared.Answer.the-variants.{Done}
-use Rattle.stemmer.specs.Entries.{enoughRoom, bytesOf, answer, partAfter, kindAnswer}
+use Rattle.stemmer.specs.Entries.{enoughRoom, bytesOf, answer, partAfter, kindAnswer, stemEntry}
 use Rattle.stemmer.specs.Blocks.{outOf, written}
 
 -- normalise writes the same bytes for both, into outputs of 340 bytes or more, and kind answers the same code and says the same of both: defined or not
@@ -22,9 +22,9 @@ pub record SameKept (u v old old′ : List ℕ) : Type 0 where
   pub codes : kindAnswer u .code ≡ kindAnswer v .code
   pub kinds : kindAnswer u .kind .defined ≡ kindAnswer v .kind .defined
 
--- the stem entries answer the same for both, leave the same output, and hand back the same part, whatever output is lent
+-- the stem entries answer the same for both, the number of endings too, leave the same output, and hand back the same part, whatever output is lent
 pub record SameStem (u v : List ℕ) : Type 0 where
-  pub answers : (room : ℕ) → answer stem u room ≡ answer stem v room
+  pub answers : (room : ℕ) → stemEntry u room ≡ stemEntry v room
   pub outputs : (old : List ℕ) → outOf stem u old ≡ outOf stem v old
   pub parts : (old : List ℕ) → partAfter (answer stem u (length old)) (bytesOf stem u) ≡ partAfter (answer stem v (length old)) (bytesOf stem v)
 

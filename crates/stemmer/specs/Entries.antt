@@ -9,11 +9,13 @@ use lib.ListN.{length, take, drop}
 use Rattle.utf8.specs.Utf8.{encode, decode, wellFormed}
 use Rattle.definition.specs.Words.{Word, pick}
 use Rattle.definition.specs.Kind.{Kind, OPEN, kind}
-use Rattle.definition.specs.Stem.{stem}
+use Rattle.definition.specs.Stem.{stem, chain}
 use Rattle.definition.specs.Demand3.{Demand3}
+use Rattle.definition.specs.Number.{FewEndings}
 use Rattle.arabic.specs.Kinds.{flags}
 use Rattle.stemmer.specs.declared.Answer.{Answer}
 use Rattle.stemmer.specs.declared.Answer.the-variants.{Done, TooLong, NotWellFormed, NoRoom}
+use Rattle.stemmer.specs.declared.StemAnswer.{StemAnswer}
 use Rattle.stemmer.specs.declared.Checked.{Checked}
 use Rattle.stemmer.specs.declared.Checked.the-variants.{Overlong, Malformed, Accepted}
 use Rattle.stemmer.specs.declared.KindAnswer.{KindAnswer}
@@ -76,6 +78,16 @@ outAfter TooLong result old = old
 outAfter NotWellFormed result old = old
 outAfter NoRoom result old = old
 
+-- the stem entry's answer: an answer, and the number m of the endings cut, 0 on refusal
+abbrev pub numbered : Answer → ℕ → StemAnswer
+numbered a m = record { answer = a; endings = m }
+
+abbrev pub withEndings : Answer → ℕ → StemAnswer
+withEndings (Done n) m = numbered (Done n) m
+withEndings TooLong m = numbered TooLong 0
+withEndings NotWellFormed m = numbered NotWellFormed 0
+withEndings NoRoom m = numbered NoRoom 0
+
 -- the result as a part of its own, empty on refusal
 unfoldable pub partAfter : Answer → List ℕ → List ℕ
 partAfter (Done n) result = result
@@ -92,16 +104,23 @@ kindAfter Accepted k = record { code = 0; kind = flags k }
 unfoldable pub kindAnswer : List ℕ → KindAnswer
 kindAnswer word = kindAfter (checked word) (kind (letters word))
 
--- the stem entry
+-- the stem entry: the bytes, code and count, and with them the number of endings, which is the length of the chain
 abbrev pub stemBytes : List ℕ → List ℕ
 stemBytes = bytesOf stem
 
 abbrev pub stemAnswer : List ℕ → ℕ → Answer
 stemAnswer = answer stem
 
+abbrev pub stemEntry : List ℕ → ℕ → StemAnswer
+stemEntry word room = withEndings (answer stem word room) (length (chain (letters word)))
+
 -- demand 3, of the letters that stand in front of the output after an answer with code 0
 abbrev pub Demand3After : List ℕ → Answer → List ℕ → Type 0
 Demand3After word a new = (w : Word) → decode word ≡ some w → codeOf a ≡ 0 → (s : Word) × ((take (countOf a) new ≡ encode s) × Demand3 w s)
+
+-- what the number of endings is at most, by the letters of the word
+abbrev pub FewEndingsOf : List ℕ → ℕ → Type 0
+FewEndingsOf word m = (w : Word) → decode word ≡ some w → FewEndings w m
 
 -- the version's text: arabic_stemmer 1.0.0, as rust-stemmers 1.2.0
 abbrev pub version : List ℕ

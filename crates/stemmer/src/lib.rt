@@ -3,6 +3,7 @@ use arabic::kind::Kind;
 use arabic::kind::kind_of;
 use arabic::normalize::r_Normalize_pre;
 use arabic::stem::finish_letters;
+use arabic::tried::Counted;
 use snowball::env::Env;
 use utf8::well_formed;
 ghost use mathlib.Core.Path.{_≡_};
@@ -10,10 +11,10 @@ ghost use Prim.Native.Nat.{_≤_, _<_};
 ghost use lib.ListN.{length, take};
 ghost use Rattle.definition.specs.Normal.{normalise};
 ghost use Rattle.definition.specs.Finish.{finish};
-ghost use Rattle.definition.specs.Stem.{stem};
+ghost use Rattle.definition.specs.Stem.{stem, chain};
 ghost use Rattle.snowball.specs.Chars.{started};
 ghost use Rattle.snowball.specs.Stands.{Stands};
-ghost use Rattle.stemmer.specs.Entries.{codeOf, countOf, mostBytes, enoughRoom, letters, bytesOf, checked, fitting, answer, outAfter, partAfter, kindAnswer, Demand3After, version, stemAnswer, stemBytes};
+ghost use Rattle.stemmer.specs.Entries.{codeOf, countOf, mostBytes, enoughRoom, letters, bytesOf, checked, fitting, answer, outAfter, partAfter, numbered, withEndings, kindAnswer, Demand3After, FewEndingsOf, version, stemAnswer, stemBytes, stemEntry};
 
 // What an entry with an output answers. Done has the number of bytes that it wrote, from the front of the output on; a
 // refusal leaves the output as it was.
@@ -22,6 +23,12 @@ pub enum Answer {
     TooLong,
     NotWellFormed,
     NoRoom,
+}
+
+// What the stem entry answers: the same, and how many endings were cut on the way to the stem, 0 with a refusal.
+pub struct StemAnswer {
+    pub answer: Answer,
+    pub endings: u32,
 }
 
 // What the first two checks say of a word.
@@ -64,10 +71,10 @@ fn entered(word: &[u8]) -> Env
     Env::create(word)
 }
 
-// Working out: an environment whose text is the stem of an accepted word.
-fn stemmed(word: &[u8]) -> Env
+// Working out: an environment whose text is the stem of an accepted word, and the number of endings cut.
+fn stemmed(word: &[u8]) -> Counted
     requires { ⌜ checked (now word) ≡ Checked.Accepted ⌝ }
-    ensures { λ r. ⌜ Stands r (started (stem (letters (now (word .entry))))) ⌝ }
+    ensures { λ r. ⌜ Stands (r .env) (started (stem (letters (now (word .entry))))) × (r .endings ≡ length (chain (letters (now (word .entry))))) ⌝ }
 {
     let env = entered(word);
     arabic::stem::stem(env)
@@ -104,21 +111,43 @@ fn deliver(text: &[u8], n: usize, out: &mut [u8]) -> Answer
     Answer::Done(n)
 }
 
-// The stem of the word. An output of ROOM bytes is always long enough.
-pub fn stem(word: &[u8], out: &mut [u8]) -> Answer
-    ensures { λ r. ⌜ r ≡ answer stem (now (word .entry)) (length (now (out .entry))) ⌝ }
+fn answered(answer: Answer, endings: u32) -> StemAnswer
+    ensures { λ r. ⌜ r ≡ numbered answer endings ⌝ }
+{
+    StemAnswer { answer, endings }
+}
+
+// The answer with the number of endings that were cut; a refusal has none.
+fn with_endings(a: Answer, endings: u32) -> StemAnswer
+    ensures { λ r. ⌜ r ≡ withEndings a endings ⌝ }
+{
+    match a {
+        Answer::Done(count) => answered(Answer::Done(count), endings),
+        Answer::TooLong => answered(Answer::TooLong, 0),
+        Answer::NotWellFormed => answered(Answer::NotWellFormed, 0),
+        Answer::NoRoom => answered(Answer::NoRoom, 0),
+    }
+}
+
+// The stem of the word, and how many endings were cut. An output of ROOM bytes is always long enough.
+pub fn stem(word: &[u8], out: &mut [u8]) -> StemAnswer
+    ensures { λ r. ⌜ r ≡ stemEntry (now (word .entry)) (length (now (out .entry))) ⌝ }
     ensures { λ r. ⌜ now (out .exit) ≡ outAfter (answer stem (now (word .entry)) (length (now (out .entry)))) (bytesOf stem (now (word .entry))) (now (out .entry)) ⌝ }
-    ensures { λ r. ⌜ Demand3After (now (word .entry)) r (now (out .exit)) ⌝ }
-    ensures { λ r. ⌜ (codeOf r ≡ 3 → length (now (out .entry)) < enoughRoom) ⌝ }
+    ensures { λ r. ⌜ Demand3After (now (word .entry)) (r .answer) (now (out .exit)) ⌝ }
+    ensures { λ r. ⌜ FewEndingsOf (now (word .entry)) (r .endings) ⌝ }
+    ensures { λ r. ⌜ (codeOf (r .answer) ≡ 3 → length (now (out .entry)) < enoughRoom) ⌝ }
 {
     let c = check_word(word);
     match c {
-        Checked::Overlong => Answer::TooLong,
-        Checked::Malformed => Answer::NotWellFormed,
+        Checked::Overlong => answered(Answer::TooLong, 0),
+        Checked::Malformed => answered(Answer::NotWellFormed, 0),
         Checked::Accepted => {
-            let e = stemmed(word);
+            let s = stemmed(word);
+            let endings = s.endings;
+            let e = s.env;
             let limit = e.limit;
-            deliver(&e.current, limit, out)
+            let a = deliver(&e.current, limit, out);
+            with_endings(a, endings)
         }
     }
 }
@@ -140,7 +169,8 @@ fn stem_front(word: &[u8], out: &mut [u8]) -> usize
     ensures { λ r. ⌜ r ≡ countOf (stemAnswer (now (word .entry)) (length (now (out .entry)))) ⌝ }
     ensures { λ r. ⌜ now (out .exit) ≡ outAfter (stemAnswer (now (word .entry)) (length (now (out .entry)))) (stemBytes (now (word .entry))) (now (out .entry)) ⌝ }
 {
-    let a = stem(word, out);
+    let s = stem(word, out);
+    let a = s.answer;
     count_of(a)
 }
 

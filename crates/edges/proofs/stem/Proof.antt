@@ -22,8 +22,8 @@ slice-aggregate-stem c =
 stem-requires : tie.Need-stem-requires
 stem-requires c κs = search needs
 
-write-answer-requires : tie.Need-write-answer-requires
-write-answer-requires c κs = search needs
+write-stem-answer-requires : tie.Need-write-stem-answer-requires
+write-stem-answer-requires c κs = search needs
 
 write-rest-requires : tie.Need-write-rest-requires
 write-rest-requires c κs = search needs
@@ -40,6 +40,6 @@ stem-spec =
     array-borrow-prefix-out
     slice-aggregate-stem
     stem-requires
-    write-answer-requires
+    write-stem-answer-requires
     write-rest-requires
     returns)

@@ -8,8 +8,9 @@ use lib.Seq.{length-take-le, length-front}
 use borrow.Author.Needs.{needs}
 use Rattle.stemmer.specs.declared.Answer.{Answer}
 use Rattle.stemmer.specs.declared.Answer.the-variants.{Done, TooLong, NotWellFormed}
-use Rattle.stemmer.specs.Entries.{codeOf, stemBytes, stemAnswer, outAfter}
-use Rattle.stemmer.proofs.Answers.{done-fits, done-count}
+use Rattle.stemmer.specs.declared.StemAnswer.{StemAnswer}
+use Rattle.stemmer.specs.Entries.{codeOf, stemBytes, stemAnswer, stemEntry, outAfter}
+use Rattle.stemmer.proofs.Answers.{done-fits, done-count, entry-answer}
 use Rattle.lines.specs.Plain.{lineFeed, refusal, answerLine}
 use Rattle.lines.specs.Machine.{stemRoom, lineRoom}
 use Rattle.lines.proofs.Answering.{line-done, line-refused, out-refused}
@@ -20,6 +21,9 @@ use Rattle.lines.proofs.emit.Tie as tie
 -- the room that `stem` is lent
 lent : (o : List ℕ) → lineRoom ≤ length o → length (take stemRoom o) ≡ stemRoom
 lent o h = length-take-le stemRoom o (omega arith)
+
+answered : (w o : List ℕ) (r : StemAnswer) → r ≡ stemEntry w (length (take stemRoom o)) → stemAnswer w (length (take stemRoom o)) ≡ r .answer
+answered w o r e = sym (ap (λ (s : StemAnswer). s .answer) e ∙ entry-answer w (length (take stemRoom o)))
 
 done-small : (w o : List ℕ) (n : ℕ) → lineRoom ≤ length o → stemAnswer w (length (take stemRoom o)) ≡ Done n → n ≤ stemRoom
 done-small w o n h e = omega (arith, done-fits w (length (take stemRoom o)) n e, lent o h)
@@ -63,7 +67,7 @@ slice-write-out c =
     let p = c .before .before .before .before .before .before .before .before .before in
     let s = c .before .before .before .before .before .stem in
     let g = c .before .a .given in
-    let small = done-small (p .args .word .now) (p .args .out .now) (g .0 .0) (p .pre) (sym (s .ensures .0) ∙ g .1) in
+    let small = done-small (p .args .word .now) (p .args .out .now) (g .0 .0) (p .pre) (answered (p .args .word .now) (p .args .out .now) (s .result) (s .ensures .0) ∙ g .1) in
     omega (arith, small, p .pre, length-front (p .args .out .now) (s .last .1 .0) stemRoom (s .kept .1 .0))
 
 add-result : tie.Need-add-result
@@ -71,7 +75,7 @@ add-result c =
     let p = c .before .before .before .before .before .before .before .before .before in
     let s = c .before .before .before .before .before .stem in
     let g = c .before .a .given in
-    omega (arith, done-small (p .args .word .now) (p .args .out .now) (g .0 .0) (p .pre) (sym (s .ensures .0) ∙ g .1))
+    omega (arith, done-small (p .args .word .now) (p .args .out .now) (g .0 .0) (p .pre) (answered (p .args .word .now) (p .args .out .now) (s .result) (s .ensures .0) ∙ g .1))
 
 same-length : tie.Need-same-length
 same-length c = search needs
@@ -81,7 +85,7 @@ returns c =
     let p = c .before .before .before .before .before .before .before .before .before in
     let s = c .before .before .before .before .before .stem in
     let g = c .before .a .given in
-    when-done (p .args .word .now) (p .args .out .now) (s .last .1 .0) (p .pre) (s .ensures .1 .0) (g .0 .0) (sym (s .ensures .0) ∙ g .1)
+    when-done (p .args .word .now) (p .args .out .now) (s .last .1 .0) (p .pre) (s .ensures .1 .0) (g .0 .0) (answered (p .args .word .now) (p .args .out .now) (s .result) (s .ensures .0) ∙ g .1)
 
 enum-told : tie.Need-enum-told
 enum-told c = search needs
@@ -97,7 +101,7 @@ returns-2 c =
     let p = c .before .before .before .before .before .before .before .before .before .before .before .before in
     let s = c .before .before .before .before .before .before .before .before .stem in
     let d = when-refused (p .args .word .now) (p .args .out .now) (s .last .1 .0) (p .pre) (s .ensures .1 .0) TooLong
-    (sym (s .ensures .0) ∙ c .before .before .before .before .enum-told .given .1) (omega arith) in
+    (answered (p .args .word .now) (p .args .out .now) (s .result) (s .ensures .0) ∙ c .before .before .before .before .enum-told .given .1) (omega arith) in
     (d .0, c .before .before .refuse .ensures ∙ d .1)
 
 enum-told-2 : tie.Need-enum-told-2
@@ -114,7 +118,7 @@ returns-3 c =
     let p = c .before .before .before .before .before .before .before .before .before .before .before .before in
     let s = c .before .before .before .before .before .before .before .before .stem in
     let d = when-refused (p .args .word .now) (p .args .out .now) (s .last .1 .0) (p .pre) (s .ensures .1 .0) NotWellFormed
-    (sym (s .ensures .0) ∙ c .before .before .before .before .enum-told2 .given .1) (omega arith) in
+    (answered (p .args .word .now) (p .args .out .now) (s .result) (s .ensures .0) ∙ c .before .before .before .before .enum-told2 .given .1) (omega arith) in
     (d .0, c .before .before .refuse2 .ensures ∙ d .1)
 
 enum-told-3 : tie.Need-enum-told-3
@@ -130,7 +134,7 @@ returns-4 : tie.Need-returns-4
 returns-4 c =
     let p = c .before .before .before .before .before .before .before .before .before .before .before .before in
     let s = c .before .before .before .before .before .before .before .before .stem in
-    let short = s .ensures .1 .1 .1 (ap codeOf (c .before .before .before .before .enum-told3 .given .1)) in
+    let short = s .ensures .1 .1 .1 .1 (ap codeOf (c .before .before .before .before .enum-told3 .given .1)) in
     absurd (omega (arith, short, lent (p .args .out .now) (p .pre)))
 
 pub emit-spec : {M : Type 1} → statement M

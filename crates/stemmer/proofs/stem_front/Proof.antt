@@ -1,7 +1,10 @@
 -- `stem_front` meets its contract: what `stem` promises, with the answer's count. Assumes nothing.
 use mathlib.Core.Path.{ap, _∙_}
+use lib.ListN.{length}
 use borrow.Author.Needs.{needs}
+use Rattle.stemmer.specs.declared.StemAnswer.{StemAnswer}
 use Rattle.stemmer.specs.Entries.{countOf}
+use Rattle.stemmer.proofs.Answers.{entry-answer}
 use Rattle.stemmer.proofs.stem_front.Statement.{statement}
 use Rattle.stemmer.proofs.stem_front.Tie as tie
 
@@ -17,7 +20,8 @@ same-length c = search needs
 returns : tie.Need-returns
 returns c =
     let s = c .before .before .before .stem in
-    (c .count-of .ensures ∙ ap countOf (s .ensures .0), s .ensures .1 .0)
+    let a = c .before .before .before .before .before .before .before .args in
+    (c .count-of .ensures ∙ ap (λ (r : StemAnswer). countOf (r .answer)) (s .ensures .0) ∙ ap countOf (entry-answer (a .word .now) (length (a .out .now))), s .ensures .1 .0)
 
 pub stem-front-spec : {M : Type 1} → statement M
 stem-front-spec = tie.close (tie.spec stem-requires count-of-requires same-length returns)

@@ -23,29 +23,34 @@ cut-endings-requires c κs = let p = c .before .pre .0 in ((normalise (p .0), c 
 
 change-front-requires : tie.Need-change-front-requires
 change-front-requires c κs =
-    let n = c .before in
-    let p = n .before .pre .0 in
-    let k = kindOf (n .before .args .context .«b_is_defined») in
-    (maqsuraIfFailed (endings k (normalise (p .0))) (after (endings k (normalise (p .0))) .text), c .cut-endings .ensures (normalise (p .0)) (n .r-Normalize-pre .ensures (p .0) (p .1)))
-
-finish-letters-requires : tie.Need-finish-letters-requires
-finish-letters-requires c κs =
     let s = c .before in
     let n = s .before in
     let p = n .before .pre .0 in
-    (_, c .change-front .ensures _ (s .cut-endings .ensures (normalise (p .0)) (n .r-Normalize-pre .ensures (p .0) (p .1))))
+    let k = kindOf (n .before .args .context .«b_is_defined») in
+    (maqsuraIfFailed (endings k (normalise (p .0))) (after (endings k (normalise (p .0))) .text), s .cut-endings .ensures (normalise (p .0)) (n .r-Normalize-pre .ensures (p .0) (p .1)) .0)
+
+finish-letters-requires : tie.Need-finish-letters-requires
+finish-letters-requires c κs =
+    let s = c .before .before in
+    let n = s .before in
+    let p = n .before .pre .0 in
+    (_, c .change-front .ensures _ (s .cut-endings .ensures (normalise (p .0)) (n .r-Normalize-pre .ensures (p .0) (p .1)) .0))
 
 returns : tie.Need-returns
 unfolding stemOf fronting cutting
 returns c =
     let f = c .before in
-    let s = f .before in
+    let s = f .before .before in
     let n = s .before in
     let e = n .before .pre .2 in
     let d = kindOf (n .before .args .context .«b_is_defined») in
-    λ w st. subst (λ (x : Word). Stands (c .finish-letters .result) (started (finish (text (fronts d x))))) (sym (endings-leave d (normalise w)))
-    (subst (λ (k : Kind). Stands (c .finish-letters .result) (started (finish (text (fronts k (maqsuraIfFailed (endings d (normalise w)) (after (endings d (normalise w)) .text)))))))
-    e (c .finish-letters .ensures _ (f .change-front .ensures _ (s .cut-endings .ensures (normalise w) (n .r-Normalize-pre .ensures w st)))))
+    λ w st.
+    let cut = s .cut-endings .ensures (normalise w) (n .r-Normalize-pre .ensures w st) in (
+      subst (λ (x : Word). Stands (c .finish-letters .result) (started (finish (text (fronts d x))))) (sym (endings-leave d (normalise w)))
+          (subst (λ (k : Kind). Stands (c .finish-letters .result) (started (finish (text (fronts k (maqsuraIfFailed (endings d (normalise w)) (after (endings d (normalise w)) .text)))))))
+          e (c .finish-letters .ensures _ (f .change-front .ensures _ (cut .0)))),
+      cut .1,
+    )
 
 pub stem-of-spec : {M : Type 1} → statement M
 stem-of-spec = tie.close (tie.spec r-Normalize-pre-requires cut-endings-requires change-front-requires finish-letters-requires returns)

@@ -49,9 +49,9 @@ slice-from-requires c κs =
     let s = f .before .before .before .before .before .before .before .before in
     let x = s .args .t1 in
     let v = s .pre .0 in
-    let st = s .pre .1 in
+    let st = s .pre .1 .stands in
     let w = v .text in
-    let l = cursor-limit x v st in
+    let l = cursor-limit x v (s .pre .1) in
     let r = room x w st (f .find-among-b .result) (f .find-among-b .ensures .1 «A_21» refl refl w (st .scalars) (from-start (x .current) (x .limit) ∙ st .bytes)) (e .if1 .left) in
     ((atEnd w, st), omega (arith, r .0), omega arith, omega (arith, r .1))
 

@@ -26,14 +26,14 @@ slice-aggregate-ending-5 c = search needs
 ending-requires : tie.Need-ending-requires
 ending-requires c κs =
     let s = c .before .before .before .before .before .before .before .before in
-    (spelt (s .pre .1), search needs)
+    (spelt (s .pre .1 .stands), search needs)
 
 cut-ending-requires : tie.Need-cut-ending-requires
 cut-ending-requires c κs = search needs
 
 returns : tie.Need-returns
 unfolding suffix «A_16» encode encode1
-returns c = λ v st. c .cut-ending .ensures nounStep3 v st (c .before .ending .ensures .1 nounStep3 refl refl refl (v .text) (st .scalars) (st .bytes))
+returns c = λ v st. c .cut-ending .ensures nounStep3 v st (c .before .ending .ensures .1 nounStep3 refl refl refl (v .text) (st .stands .scalars) (st .stands .bytes))
 
 pub r-Suffix-Noun-Step3-spec : {M : Type 1} → statement M
 r-Suffix-Noun-Step3-spec =
