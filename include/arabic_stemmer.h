@@ -52,7 +52,7 @@ typedef struct {
  * old ones. A word of nothing but characters that normalising deletes has an empty stem, with code 0
  * and count 0.
  * The number of endings is that of all endings that were cut on the way to the stem, one after the other; what is taken or
- * changed in front is not counted. For a word of n letters when it is normalised it is at most n - 2, and 0 where n is below 3;
+ * changed in front is not counted, nor is a last letter that is changed. For a word of n letters when it is normalised it is at most n - 2, and 0 where n is below 3;
  * for a defined word it is at most 3. */
 arabic_stemmer_stem_answer arabic_stemmer_stem(const uint8_t *word, size_t word_length, uint8_t *output, size_t output_length);
 
@@ -68,7 +68,7 @@ arabic_stemmer_answer arabic_stemmer_normalise(const uint8_t *word, size_t word_
 arabic_stemmer_answer arabic_stemmer_finish(const uint8_t *word, size_t word_length, uint8_t *output, size_t output_length);
 
 /* Whether the word is defined. Codes are 0, 1 and 2; there is no output. It goes by the word as typed: two words that are
- * normalised to the same bytes may be of two kinds. If they are of one kind, they have the same stem. */
+ * normalised to the same bytes may be of two kinds. If they are of one kind, they have the same stem and as many endings. */
 arabic_stemmer_kind_answer arabic_stemmer_kind(const uint8_t *word, size_t word_length);
 
 /* The version of the library and the edition whose stems it gives, as ASCII text with no zero behind it. Codes are 0

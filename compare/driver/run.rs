@@ -267,7 +267,7 @@ fn in_blocks(run: &mut Run, words: &mut Words, count: u64) {
     run.end(&format!("{} words cut at every byte, and their results handed in again", tried));
 }
 
-/// Random words in several spellings with one normalised form: those of one kind must have one stem. Pairs of two kinds, and how many of them have two stems,
+/// Random words in several spellings with one normalised form: those of one kind must have one stem and one number of endings. Pairs of two kinds, and how many of them have two stems,
 /// are counted. A spelling that comes again makes no pair.
 fn in_spellings(run: &mut Run, words: &mut Words, count: u64) {
     run.begin("spellings");
@@ -277,22 +277,23 @@ fn in_spellings(run: &mut Run, words: &mut Words, count: u64) {
     while tried < count && run.start.elapsed() < run.limit {
         let word = String::from_utf8(words.word()).expect("a random word is well formed");
         let normalised = arabic_test_copy::normalised(&word);
-        let mut seen: Vec<(String, bool, String)> = Vec::new();
+        let mut seen: Vec<(String, bool, u32, String)> = Vec::new();
         for turn in 0..SPELLINGS {
             let spelt = if turn == 0 { word.clone() } else { words.spelling(&normalised) };
             run.take(spelt.as_bytes());
-            if seen.iter().any(|(other, _, _)| *other == spelt) {
+            if seen.iter().any(|(other, _, _, _)| *other == spelt) {
                 continue;
             }
-            let (defined, texts) = match check::expected(spelt.as_bytes()) {
-                Ok(Expected::Given { defined, texts, .. }) => (defined, texts),
+            let (defined, endings, texts) = match check::expected(spelt.as_bytes()) {
+                Ok(Expected::Given { defined, endings, texts }) => (defined, endings, texts),
                 _ => continue,
             };
             let [stem, own, _] = texts;
-            for (other, other_defined, other_stem) in &seen {
+            for (other, other_defined, other_endings, other_stem) in &seen {
                 let same = *other_stem == stem;
-                if own != normalised || (defined == *other_defined && !same) {
+                if own != normalised || (defined == *other_defined && !(same && endings == *other_endings)) {
                     println!("spellings: {} and {} have the stems {} and {}", hex(other.as_bytes()), hex(spelt.as_bytes()), hex(other_stem.as_bytes()), hex(stem.as_bytes()));
+                    println!("spellings: and {} and {} endings", other_endings, endings);
                     println!("{} compared, 1 different", run.compared + run.in_part + 1);
                     std::process::exit(1)
                 }
@@ -300,7 +301,7 @@ fn in_spellings(run: &mut Run, words: &mut Words, count: u64) {
                 two_kinds += (defined != *other_defined) as u64;
                 two_stems += !same as u64;
             }
-            seen.push((spelt, defined, stem));
+            seen.push((spelt, defined, endings, stem));
         }
         tried += 1;
     }

@@ -37,7 +37,8 @@ fn or_noun(t: Tried, b_is_defined: bool) -> Tried
     noun(x, b_is_defined)
 }
 
-// The verb or the noun, and a last 0649 where both have failed. The two flags are those of one kind.
+// The verb or the noun, and a last 0649 where both have failed. Every ending cut counts, also before a step that fails. The two flags
+// are those of one kind.
 pub fn suffixes(env: Env, b_is_defined: bool, b_is_verb: bool) -> Counted
     requires { ⌜ Ready env × (kindByVerb «b_is_verb» ≡ kindOf «b_is_defined») ⌝ }
     ensures { λ r. ⌜ ((w : Word) → Ends env (uncut w)

@@ -21,7 +21,7 @@ pub struct Searched {
     pub tried: Tried,
 }
 
-// An environment, and how many endings were cut on the way to it.
+// An environment, and how many endings were cut on the way to it. What the environment itself counts has no meaning any more.
 pub struct Counted {
     pub endings: u32,
     pub env: Env,

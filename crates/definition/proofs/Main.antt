@@ -4,7 +4,7 @@ use mathlib.Core.Bool.{true, false}
 use mathlib.Core.Logic.{_⊎_}
 use mathlib.Core.List.{[], _∷_, _++_, map}
 use mathlib.Core.Option.{some}
-use Prim.Native.Nat.{ℕ, _≤_, _<_}
+use Prim.Native.Nat.{ℕ, _-_, _≤_, _<_}
 use lib.Dec.{eqb}
 use lib.ListN.{length}
 use Rattle.definition.specs.Letters.{hamza, alefHamzaAbove, alef, beh, waw, yeh}
@@ -24,7 +24,7 @@ use Rattle.definition.specs.Examples.{computed, twelve, work, examples, 
 use Rattle.definition.specs.Listed.{checks1, EveryClassListed}
 use Rattle.definition.specs.StepRow.{OneSearch, kindCheck, ofEnding, alefMaqsura, ofFront, tableOf, matchIn, endsEarly, stepRow, rowComputed, rowSamples}
 use Rattle.definition.specs.Depends.{SameWay, OneWordTwoKinds, yehRow, OnlyDefined, DefinedCuts, OpenCuts}
-use Rattle.definition.specs.Number.{FewEndings, counted, numberSamples}
+use Rattle.definition.specs.Number.{FewEndings, NoFewerEndings, counted, numberSamples}
 use Rattle.definition.proofs.Examples.{examples-right, depends-right, numbers-right}
 use Rattle.definition.proofs.Finish.{finish-joined, finish-all}
 use Rattle.definition.proofs.Listed.{every-class-listed}
@@ -207,9 +207,23 @@ main-open-cuts = depends-right .2
 pub main-number : (w : Word) → FewEndings w (length (chain w))
 main-number = few-endings
 
+-- the same written out
+pub main-number-below : (w : Word) → length (normalise w) < 3 → length (chain w) ≡ 0
+main-number-below w = few-endings w .below
+
+pub main-number-most : (w : Word) → 3 ≤ length (normalise w) → length (chain w) ≤ length (normalise w) - 2
+main-number-most w = few-endings w .most
+
+pub main-number-defined : (w : Word) → kind w ≡ DEFINED → length (chain w) ≤ 3
+main-number-defined w = few-endings w .defined
+
+-- and not less
+pub main-number-tight : NoFewerEndings
+main-number-tight = numbers-right .1
+
 -- words that have so many
 pub main-number-samples : map counted numberSamples ≡ numberSamples
-main-number-samples = numbers-right
+main-number-samples = numbers-right .0
 
 -- ---- finishing
 

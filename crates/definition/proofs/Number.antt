@@ -1,6 +1,6 @@
 -- The number of endings: each takes a letter, two letters stay, and a defined word has three at most. Assumes nothing.
 use mathlib.Core.Path.{_≡_, refl, ap, _∙_}
-use Prim.Native.Nat.{ℕ, _+_}
+use Prim.Native.Nat.{_+_}
 use native.Mathlib.Omega.{arith}
 use lib.ListN.{length, length-append, length-reverse}
 use Rattle.definition.specs.Words.{Word}

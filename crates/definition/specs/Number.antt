@@ -1,4 +1,4 @@
--- How many endings are cut: what their number is at most, and words that show that it is no less (request A12).
+-- How many endings are cut: what their number is at most, that no smaller bound holds, and words that reach the bounds (request A12).
 use mathlib.Core.Path.{_≡_}
 use mathlib.Core.List.{List, [], _∷_}
 use Prim.Native.Nat.{ℕ, _-_, _≤_, _<_}
@@ -15,6 +15,16 @@ pub record FewEndings (w : Word) (m : ℕ) : Type 0 where
   pub below : length (normalise w) < 3 → m ≡ 0
   pub most : 3 ≤ length (normalise w) → m ≤ length (normalise w) - 2
   pub defined : kind w ≡ DEFINED → m ≤ 3
+
+-- and it is no less: no other number in the place of the 3, the 2 or the 3 says more and holds of every word
+pub record NoFewerEndings : Type 0 where
+  pub below : (b : ℕ) → ((w : Word) → length (normalise w) < b → length (chain w) ≡ 0) → b ≤ 3
+  pub most : (b : ℕ) → ((w : Word) → 3 ≤ length (normalise w) → length (chain w) ≤ length (normalise w) - b) → b ≤ 2
+  pub defined : (b : ℕ) → ((w : Word) → kind w ≡ DEFINED → length (chain w) ≤ b) → 3 ≤ b
+
+-- a word of three letters, the last of which is cut
+abbrev pub oneGoes : Word
+oneGoes = beh ∷ noon ∷ yeh ∷ []
 
 -- a word, its kind, the number of its normalised letters, and the number of endings cut
 pub record NumberSample : Type 0 where
@@ -35,7 +45,7 @@ numberSamples =
     -- no ending below three letters, and one where a third is there
     numberSample [] OPEN 0 0
     ∷ numberSample (noon ∷ yeh ∷ []) OPEN 2 0
-    ∷ numberSample (beh ∷ noon ∷ yeh ∷ []) OPEN 3 1
+    ∷ numberSample oneGoes OPEN 3 1
     -- n - 2 of four letters, in an open and in a defined word
     ∷ numberSample (seen ∷ noon ∷ yeh ∷ tehMarbuta ∷ []) OPEN 4 2
     ∷ numberSample (alef ∷ lam ∷ yeh ∷ tehMarbuta ∷ []) DEFINED 4 2

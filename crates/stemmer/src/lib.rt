@@ -111,6 +111,7 @@ fn deliver(text: &[u8], n: usize, out: &mut [u8]) -> Answer
     Answer::Done(n)
 }
 
+// The two parts of the stem entry's answer put together.
 fn answered(answer: Answer, endings: u32) -> StemAnswer
     ensures { λ r. ⌜ r ≡ numbered answer endings ⌝ }
 {
