@@ -52,8 +52,8 @@ typedef struct {
  * old ones. A word of nothing but characters that normalising deletes has an empty stem, with code 0
  * and count 0.
  * The number of endings is that of all endings that were cut on the way to the stem, one after the other; what is taken or
- * changed in front is not counted, nor is a last letter that is changed. For a word of n letters when it is normalised it is at most n - 2, and 0 where n is below 3;
- * for a defined word it is at most 3. */
+ * changed in front is not counted, nor is a last letter that is changed. For a word of n letters when it is normalised it is
+ * at most n - 2, and 0 where n is below 3; for a defined word it is at most 3. */
 arabic_stemmer_stem_answer arabic_stemmer_stem(const uint8_t *word, size_t word_length, uint8_t *output, size_t output_length);
 
 /* The word normalised, with nothing cut: vowel marks, the tatweel and some punctuation deleted, digits and presentation forms
