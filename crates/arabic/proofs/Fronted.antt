@@ -58,15 +58,15 @@ module _ (s : PrefixStep) (t rest : Word) (at : ℕ) (f : Found) (a : Ahead (pre
         record { row = a.finds.row; class = a.finds.class ∙ sym (ap (class_by s) q); cursor = a.cursor ∙ sym (ap (behind_by s at) q) }
 
 -- ---- a test of every step's rows: the row has letters and a class that is listed, and what is put for it is no longer in bytes
-abbrev row_fits : PrefixStep → Row → Bool
-row_fits s k =
+abbrev is_fitting_row : PrefixStep → Row → Bool
+is_fitting_row s k =
     both (leb 1 (length k.letters))
     (both (leb 1 k.class)
     (both (leb k.class (length (replacements s)))
     (both (low (replaced_by s k))
     (leb (size (replaced_by s k)) (size k.letters)))))
 
-rows_fit : (s : PrefixStep) → every (row_fits s) (prefix s).table ≡ true
+rows_fit : (s : PrefixStep) → every (is_fitting_row s) (prefix s).table ≡ true
 unfolding prefix replacements A_4 A_5 A_6 A_7 A_8 A_9 encode encode1
 rows_fit prefix_step1 = refl
 rows_fit prefix_step2 = refl
@@ -85,7 +85,7 @@ record RowFits (s : PrefixStep) (k : Row) : Type 0 where
 row_fits : (s : PrefixStep) (r : ℕ) → r < length (prefix s).table → RowFits s (row_at (prefix s).table r)
 row_fits s r h =
     let k : Row = row_at (prefix s).table r in
-    let e = all_at (row_fits s) (prefix s).table (rows_fit s) r h in
+    let e = all_at (is_fitting_row s) (prefix s).table (rows_fit s) r h in
     let e1 = both_1 (leb 1 (length k.letters)) _ e in
     let e2 = both_1 (leb 1 k.class) _ e1 in
     let e3 = both_1 (leb k.class (length (replacements s))) _ e2 in

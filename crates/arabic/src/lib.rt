@@ -1,4 +1,6 @@
 // The Rust's arabic.rs: the tables, the steps, and the stem on an environment.
+#![tactic(auto)]
+
 pub mod a_0;
 pub mod context;
 pub mod kind;

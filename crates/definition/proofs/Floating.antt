@@ -6,7 +6,7 @@ use mathlib.Core.List.{List, [], ◌∷◌, ◌++◌}
 use Prim.Native.Nat.{ℕ, zero, suc, ◌+◌, ◌-◌, ◌<◌}
 use native.Mathlib.Omega.{arith}
 use lib.Dec.{eqb, ltb}
-use borrow.Author.Tests.{eqb-true, eq-eqb, ltb-true, ltb-false, not_true}
+use borrow.Author.Tests.{eqb-true, eq-eqb, ltb-true, ltb-false, not-true}
 use Rattle.definition.specs.Words.{Word, pick, both, every}
 use Rattle.definition.specs.Tables.{Row, Table, A_0}
 use Rattle.definition.specs.Search.{row_at}
@@ -104,7 +104,7 @@ pub free_unmarked : (w : Word) → no_mark w ≡ true → unmarked w ≡ w
 unfolding unmarked
 free_unmarked [] h = refl
 free_unmarked (c ∷ w) h =
-    ap (λ (b : Bool). pick b (unmarked w) (c ∷ unmarked w)) (not_true (floating c) (both_0 (not (floating c)) (no_mark w) h))
+    ap (λ (b : Bool). pick b (unmarked w) (c ∷ unmarked w)) (not-true (floating c) (both_0 (not (floating c)) (no_mark w) h))
     ∙ ap (λ (x : Word). c ∷ x) (free_unmarked w (both_1 (not (floating c)) (no_mark w) h))
 
 pub unmarked_twice : (w : Word) → unmarked (unmarked w) ≡ unmarked w
@@ -133,7 +133,7 @@ gives_free = refl
 mark_no_key : (c : ℕ) → floating c ≡ true → NoKey c
 mark_no_key c f r h e =
     let t : no_mark (c ∷ []) ≡ true = ap no_mark (sym e) ∙ all_at letter_free A_0 keys_free r h in
-    clash f (not_true (floating c) (both_0 (not (floating c)) true t))
+    clash f (not-true (floating c) (both_0 (not (floating c)) true t))
 
 either_free : (b : Bool) (u v : Word) → no_mark u ≡ true → no_mark v ≡ true → no_mark (pick b u v) ≡ true
 either_free true u v h k = h

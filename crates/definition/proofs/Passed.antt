@@ -7,7 +7,7 @@ use Prim.Native.Nat.{ℕ, ◌≤◌}
 use native.Mathlib.Omega.{arith}
 use lib.Dec.{leb}
 use lib.ListN.{length}
-use borrow.Author.Tests.{leb-true, le-leb, not_true}
+use borrow.Author.Tests.{leb-true, le-leb, not-true}
 use Rattle.definition.specs.Words.{Word, both, every, begins_with}
 use Rattle.definition.specs.Tables.{A_0}
 use Rattle.definition.specs.Search.{row_at, longest}
@@ -68,7 +68,7 @@ no_plain_keys = refl
 plain_no_key : (c : ℕ) → plain_letter c ≡ true → NoKey c
 plain_no_key c p r h e =
     let t : both (not (plain_letter c)) true ≡ true = ap (every (λ (d : ℕ). not (plain_letter d))) (sym e) ∙ all_at no_plain_key A_0 no_plain_keys r h in
-    clash p (not_true (plain_letter c) (both_0 (not (plain_letter c)) true t))
+    clash p (not-true (plain_letter c) (both_0 (not (plain_letter c)) true t))
 
 plain_no_keys : (w : Word) → every plain_letter w ≡ true → AllOf NoKey w
 plain_no_keys [] e = tt

@@ -7,7 +7,7 @@ use Prim.Native.Nat.{ℕ, zero, suc, ◌+◌, ◌≤◌, ◌<◌}
 use native.Mathlib.Omega.{arith}
 use lib.Dec.{leb}
 use lib.ListN.{length, take, get_or, length-append}
-use borrow.Author.Tests.{leb-true, not_true}
+use borrow.Author.Tests.{leb-true, not-true}
 use Rattle.definition.specs.Letters.{hamza, alef, waw, yeh}
 use Rattle.definition.specs.Words.{Word, both, every, same, begins_with}
 use Rattle.definition.specs.Tables.{Row, A_0, A_4}
@@ -52,21 +52,21 @@ module _ (P : ℕ → Type 0) where
 abbrev other_row : ℕ → Row → Bool
 other_row c k = not (same k.letters (c ∷ []))
 
-abbrev no_key : ℕ → Bool
-no_key c = every (other_row c) A_0
+abbrev is_no_key : ℕ → Bool
+is_no_key c = every (other_row c) A_0
 
-no_key : (c : ℕ) → no_key c ≡ true → NoKey c
+no_key : (c : ℕ) → is_no_key c ≡ true → NoKey c
 no_key c e r h q =
-    let a = not_true (same (row_at A_0 r).letters (c ∷ [])) (all_at (other_row c) A_0 e r h) in
+    let a = not-true (same (row_at A_0 r).letters (c ∷ [])) (all_at (other_row c) A_0 e r h) in
     false≢true (sym a ∙ ap (λ (x : Word). same x (c ∷ [])) q ∙ same_refl (c ∷ []))
 
-abbrev no_keys : Word → Bool
-no_keys [] = true
-no_keys (c ∷ w) = both (no_key c) (no_keys w)
+abbrev are_no_keys : Word → Bool
+are_no_keys [] = true
+are_no_keys (c ∷ w) = both (is_no_key c) (are_no_keys w)
 
-no_keys : (w : Word) → no_keys w ≡ true → AllOf NoKey w
+no_keys : (w : Word) → are_no_keys w ≡ true → AllOf NoKey w
 no_keys [] e = tt
-no_keys (c ∷ w) e = (no_key c (both_0 (no_key c) (no_keys w) e), no_keys w (both_1 (no_key c) (no_keys w) e))
+no_keys (c ∷ w) e = (no_key c (both_0 (is_no_key c) (are_no_keys w) e), no_keys w (both_1 (is_no_key c) (are_no_keys w) e))
 
 -- the letters that later steps put in
 put_in : AllOf NoKey (hamza ∷ alef ∷ waw ∷ yeh ∷ [])
@@ -75,7 +75,7 @@ put_in = no_keys (hamza ∷ alef ∷ waw ∷ yeh ∷ []) refl
 
 -- ---- normalising: every row of A_0 has a class, and what the class gives holds no key
 abbrev gives_no_key : Row → Bool
-gives_no_key k = both (leb 1 k.class) (no_keys (given 0 k.class))
+gives_no_key k = both (leb 1 k.class) (are_no_keys (given 0 k.class))
 
 gives_no_key_lem : every gives_no_key A_0 ≡ true
 unfolding A_0 gives listed_for given same

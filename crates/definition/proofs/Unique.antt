@@ -7,7 +7,7 @@ use Prim.Native.Nat.{ℕ, zero, suc, ◌-◌, ◌≤◌, ◌<◌}
 use native.Mathlib.Omega.{arith}
 use lib.Dec.{leb}
 use lib.ListN.{length, take, drop}
-use borrow.Author.Tests.{leb-true, le-leb, lt-leb, not_true}
+use borrow.Author.Tests.{leb-true, le-leb, lt-leb, not-true}
 use Rattle.definition.specs.Words.{Word, pick, every, same, begins_with, ends_with}
 use Rattle.definition.specs.Tables.{Row, Table, A_0, A_1, A_2, A_3, A_4, A_5, A_6, A_7, A_8, A_9, A_11, A_12, A_13, A_14, A_15, A_16, A_17, A_18, A_19, A_20, A_21}
 use Rattle.definition.specs.Search.{row_at, longer, longest}
@@ -25,7 +25,7 @@ some_letter (k ∷ t) d (suc r) h = some_letter t (distinct_tail k t d) r (omega
 
 other_row : (k : Row) (t : Table) → distinct (k ∷ t) ≡ true → (r : ℕ) → r < length t → k.letters ≡ (row_at t r).letters → ⊥
 other_row k t d r h e =
-    let a = not_true (same k.letters (row_at t r).letters)
+    let a = not-true (same k.letters (row_at t r).letters)
     (all_at (λ (j : Row). not (same k.letters j.letters)) t (both_0 _ _ (both_1 (leb 1 (length k.letters)) _ d)) r h) in
     false≢true (sym a ∙ ap (λ (x : Word). same x (row_at t r).letters) e ∙ same_refl (row_at t r).letters)
 

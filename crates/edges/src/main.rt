@@ -1,5 +1,7 @@
 // The edges of document 01. Each line has a name, the answer's code and count, and every byte of the output and of four more behind
 // it, in hexadecimal. Before the call the byte at i is i % 251.
+#![tactic(auto)]
+
 ghost use Rattle.std.specs.Prelude.{◌≡◌, ◌<◌, ◌≤◌, length};
 ghost use Rattle.edges.specs.Sizes.{space, largest};
 

@@ -1,4 +1,6 @@
 // Floating marks in bytes: whether one stands at a place, whether a word has one, and a copy of a word without them.
+#![tactic(auto)]
+
 ghost use Rattle.std.specs.Prelude.{◌≡◌, not, ◌+◌, ◌≤◌, length};
 ghost use Rattle.definition.specs.Words.{Word};
 ghost use Rattle.definition.specs.Floating.{no_mark};

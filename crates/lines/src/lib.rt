@@ -1,4 +1,6 @@
 // The line program's work on slices: an input goes in piece by piece, and lines come out.
+#![tactic(auto)]
+
 ghost use Rattle.std.specs.Prelude.{◌≡◌, List, ◌∷◌, ◌++◌, ℕ, ◌≤◌, length, take, drop};
 ghost use Rattle.lines.specs.Plain.{line_feed, question_mark, answer_line};
 ghost use Rattle.lines.specs.Machine.{kept_bytes, line_room, reading, start, put_behind, opened, Turns, Feeds, Ends};

@@ -5,7 +5,7 @@ use mathlib.Core.Logic.{◌⊎◌, inl, inr}
 use mathlib.Core.Option.{Option, none, some}
 use Prim.Native.Nat.{ℕ}
 use lib.ListN.{length}
-use borrow.Author.Tests.{not_true}
+use borrow.Author.Tests.{not-true}
 use Rattle.definition.specs.Words.{Word, every, ends_with}
 use Rattle.definition.specs.Tables.{Row, Table}
 use Rattle.definition.specs.Search.{row_at, taken}
@@ -47,4 +47,4 @@ one_idle s t c v = go (taken (ends_with v.text) (suffix s) (length v.text)) refl
         let m : Word = (row_at (suffix t).table q).letters in
         let x = all_at (λ (i : Row). not (compatible k i.letters)) (suffix t).table
         (all_at (λ (j : Row). every (λ (i : Row). not (compatible j.letters i.letters)) (suffix t).table) (suffix s).table c r a.inside) q b.inside in
-        absurd (clash (fits v.text k m a.matches b.matches) (not_true (compatible k m) x))
+        absurd (clash (fits v.text k m a.matches b.matches) (not-true (compatible k m) x))

@@ -9,7 +9,7 @@ use native.Mathlib.Omega.{arith}
 use lib.Dec.{leb}
 use lib.ListN.{length, take, drop, get_or}
 use lib.Seq.{take-take}
-use borrow.Author.Tests.{leb-true, leb-false, not_true}
+use borrow.Author.Tests.{leb-true, leb-false, not-true}
 use Rattle.definition.specs.Words.{Word, every, same, begins_with}
 use Rattle.definition.specs.Tables.{Row, A_6, A_7, A_8, A_9}
 use Rattle.definition.specs.Search.{row_at, taken}
@@ -135,7 +135,7 @@ other_fails s t c f a = go (takes t f)
         let k : Row = row_at (prefix s).table a.row in
         let m : Row = row_at (prefix t).table b.row in
         let x = all_at _ (prefix t).table (all_at _ (prefix s).table c a.row a.taken.inside) b.row b.taken.inside in
-        absurd (clash (front_fits f.rest k.letters m.letters a.taken.matches b.taken.matches) (not_true (together k.letters m.letters) x))
+        absurd (clash (front_fits f.rest k.letters m.letters a.taken.matches b.taken.matches) (not-true (together k.letters m.letters) x))
 
 -- nor with what Step3_Verb puts for a row
 apart_new : every (λ (k : Row). every (λ (m : Row). not (together (get_or (replacements prefix_step3_verb) (k.class - 1) []) m.letters)) (prefix prefix_step3b_noun).table) (prefix prefix_step3_verb).table ≡ true
@@ -223,7 +223,7 @@ module _ (n : Word) where
           let d : Word = drop (length (front_row (at prefix_step3_verb t.row))) f.rest in
           let x = all_at _ (prefix prefix_step3b_noun).table (all_at _ (prefix prefix_step3_verb).table apart_new t.row t.taken.inside) u.row u.taken.inside in
           let y : begins_with h.rest new ≡ true = begins_of h.rest new d (λ i. (bare n i ++ new) ++ d) in
-          absurd (clash (front_fits h.rest new m y u.taken.matches) (not_true (together new m) x))
+          absurd (clash (front_fits h.rest new m y u.taken.matches) (not-true (together new m) x))
 
   -- what stands after the two orders of Step3b_Noun and the verb's fronts
   same_text : (k : Kind) → Takes prefix_step3b_noun f ⊎ Fails (apply prefix_step3b_noun) f

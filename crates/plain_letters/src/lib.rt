@@ -1,4 +1,6 @@
 // Plain letters in bytes, those of 0621 to 063A and 0641 to 064A: whether one stands at a place, and its copy.
+#![tactic(auto)]
+
 ghost use Rattle.std.specs.Prelude.{◌≡◌, true, List, ℕ, ◌+◌, ◌≤◌, length};
 ghost use Rattle.definition.specs.Facts.{in_range};
 ghost use Rattle.utf8.specs.Utf8.{encode1};

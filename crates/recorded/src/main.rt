@@ -1,6 +1,8 @@
 // Answers every entry for each line of standard input: stem, number of endings, kind, normalised and finished word, and the row of each
 // step, parted by tabs. A refusal is `?` and its code, and 0 endings; the kind is 0 for open and 1 for defined. The answers of the Rust for
 // the same words are stored beside it.
+#![tactic(auto)]
+
 mod rows;
 
 ghost use Rattle.std.specs.Prelude.{◌≡◌, ◌≤◌, length};

@@ -1,6 +1,8 @@
 // Reads standard input to its end, and writes a line for each line of it: the stem, or `?` and the code.
 // No contract can say what is read or written: what the lines are is proved in the crate `lines`.
 // A read or a write that fails is said on standard error, and nothing more is read or written.
+#![tactic(auto)]
+
 ghost use Rattle.std.specs.Prelude.{true, ◌≡◌, ◌≤◌, length};
 ghost use Rattle.lines.specs.Machine.{kept_bytes, line_room, reading, after};
 

@@ -1,4 +1,6 @@
 // The entries: checking a word, working out what is asked of it, delivering the result. Each takes any bytes and any output.
+#![tactic(auto)]
+
 ghost use Rattle.std.specs.Prelude.{◌≡◌, ◌≤◌, ◌<◌, length, take};
 ghost use Rattle.definition.specs.Normal.{normalise};
 ghost use Rattle.definition.specs.Finish.{finish};

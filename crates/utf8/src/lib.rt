@@ -1,4 +1,6 @@
 // UTF-8: whether bytes are well formed, and single letters in bytes.
+#![tactic(auto)]
+
 pub mod letters;
 
 ghost use Rattle.std.specs.Prelude.{◌≡◌};

@@ -1,7 +1,7 @@
 -- `normalize::all_plain` meets its contract: each turn passes a plain letter. Assumes nothing.
 use Prim.Native.Nat.{◌-◌}
 use native.Mathlib.Omega.{arith}
-use borrow.Author.Tests.{not_true, not_false}
+use borrow.Author.Tests.{not-true, not-false}
 use Rattle.arabic.proofs.Passing.{two-inside, Inv, start, next, letter, stopped, turn, done}
 use Rattle.arabic.proofs.normalize.all_plain.Statement.{statement}
 use Rattle.arabic.proofs.normalize.all_plain.Tie as tie
@@ -21,22 +21,22 @@ plain-at-requires c κs = letter c.before.loop.invariant (omega arith)
 returns : tie.Need-returns invariant-loop decreases-loop
 returns c =
     let p = c.before.plain_at in
-    stopped c.before.before.before.loop.invariant (omega arith) p.result p.ensures (not_true p.result c.if1.true)
+    stopped c.before.before.before.loop.invariant (omega arith) p.result p.ensures (not-true p.result c.if1.true)
 
 add-cursor : tie.Need-overflow-add-cursor invariant-loop decreases-loop
 add-cursor c =
     let p = c.before.plain_at in
-    omega (arith, two-inside (next c.before.before.before.loop.invariant (omega arith)) p.result p.ensures (not_false p.result c.if1.false), c.before.before.before.before.before.ranges.limit)
+    omega (arith, two-inside (next c.before.before.before.loop.invariant (omega arith)) p.result p.ensures (not-false p.result c.if1.false), c.before.before.before.before.before.ranges.limit)
 
 loop-less : tie.Need-loop-smaller invariant-loop decreases-loop
 loop-less c =
     let p = c.before.plain_at in
-    omega (arith, two-inside (next c.before.before.before.loop.invariant (omega arith)) p.result p.ensures (not_false p.result c.if1.false))
+    omega (arith, two-inside (next c.before.before.before.loop.invariant (omega arith)) p.result p.ensures (not-false p.result c.if1.false))
 
 loop-again : tie.Need-loop-preserved invariant-loop decreases-loop
 loop-again c =
     let p = c.before.plain_at in
-    turn c.before.before.before.loop.invariant (omega arith) p.result p.ensures (not_false p.result c.if1.false)
+    turn c.before.before.before.loop.invariant (omega arith) p.result p.ensures (not-false p.result c.if1.false)
 
 returns-2 : tie.Need-returns-2 invariant-loop decreases-loop
 returns-2 c = done c.before.loop.invariant c.loop-test.false
