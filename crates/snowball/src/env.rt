@@ -37,7 +37,7 @@ fn put(out: &mut [u8], at: usize, text: &[u8], from: usize, to: usize)
     requires { (length out.old ≡ work_size) × (from ≤ to) × (to ≤ length text.now) × (at + (to - from) ≤ work_size) }
     ensures { out.new ≡ paste out.old at (slice from to text.now) (to - from) }
 {
-    bytes::copy(&text[from..to], &mut out[at..]);
+    out[at..at + (to - from)].copy_from_slice(&text[from..to]);
 }
 
 // The Rust's is_char_boundary, asked of a byte: whether a letter starts with it.
@@ -131,7 +131,7 @@ pub fn stands_at(text: &[u8], cursor: usize, limit: usize, key: &[u8]) -> bool
         return false;
     }
     let end = cursor + key.len();
-    check::same(&text[cursor..end], key)
+    &text[cursor..end] == key
 }
 
 impl Env {

@@ -111,7 +111,7 @@ fn deliver(text: &[u8], n: usize, out: &mut [u8]) -> Answer
     if n > out.len() {
         return Answer::NoRoom;
     }
-    bytes::copy(&text[..n], out);
+    out[..n].copy_from_slice(&text[..n]);
     Answer::Done(n)
 }
 
