@@ -1,11 +1,10 @@
 -- Bytes copied into an array. Assumes nothing.
 use mathlib.Core.Path.{◌≡◌, sym, ap, ◌∙◌}
 use Prim.Native.Nat.{ℕ, ◌+◌, ◌-◌, ◌≤◌}
-use mathlib.Core.List.{List, [], ◌++◌, append_assoc, append-nil}
+use mathlib.Core.List.{List, ◌++◌}
 use native.Mathlib.Omega.{arith}
-use lib.ListN.{length, take, drop, length-drop}
-use lib.Seq.{paste, length-paste, take-paste, take-take, take_all, take-length, take-add, length-take-le, drop_at, drop-drop, drop-length, slice, length-slice}
-use borrow.Rule.Slice.PartMut.{mid_of, post_of, put_mid, mid_len, Post-is}
+use lib.ListN.{length, take, drop}
+use lib.Seq.{paste, length-paste, take-paste, take-take, take_all, take-length, take-add, length-take-le, drop_at, slice, length-slice}
 use Rattle.snowball.specs.Cut.{replaced}
 
 -- what `&text[from..to]` shows
@@ -15,19 +14,6 @@ part_is text from to h l =
     sym (ap (λ (k : ℕ). drop from (take k text)) e
     ∙ ap (drop from) (take-add from (to - from) text)
     ∙ drop_at (take from text) (take (to - from) (drop from text)) from (length-take-le from text (omega arith)))
-
--- the whole, once `bytes::copy` has written that to `&mut out[at..]`
-pub copied_part : (out part text : List ℕ) (at from to : ℕ) → from ≤ to → to ≤ length text → at ≤ length out
-    → part ≡ take (length (mid_of from (to - from) text)) (mid_of from (to - from) text)
-    ++ drop (length (mid_of from (to - from) text)) (mid_of at (length out - at) out)
-    → put_mid at (length out - at) out part ≡ paste out at (slice from to text) (to - from)
-copied_part out part text at from to h l k e =
-    let n : length (mid_of from (to - from) text) ≡ to - from = mid_len from to text l in
-    let rest : post_of at (length out - at) out ≡ [] = Post-is at (length out) out k ∙ drop-length out in
-    let all : mid_of at (length out - at) out ≡ drop at out = take_all (length out - at) (drop at out) (simp length-drop (omega arith)) in
-    let whole_part : part ≡ take (to - from) (slice from to text) ++ drop (at + (to - from)) out =
-    e ∙ rw (n, part_is text from to h l, all, drop-drop) in
-    rw (rest, append-nil, whole_part, append_assoc)
 
 -- a copy of a whole text
 module _ (out out₀ : List ℕ) (at : ℕ) (s : List ℕ) (e : out ≡ paste out₀ at (slice 0 (length s) s) (length s - 0)) (h : at + length s ≤ length out₀) where

@@ -128,11 +128,11 @@ module _ {us : List (List ℕ)} {ns js : List ℕ} (t : Table us ns js) (s : Lis
         not_in = λ k kl b o m. R.not_in k kl (up k b) o m;
       }
 
-  walked : (i q r : ℕ) → i < length us → Ready us s i q → Walked ns js q i r → Longest us s r ⊎ ((r ≡ length ns) × Nothing us s)
-  walked i q r l R (hit h) = inl (hit-longest i q l R (omega (arith, t.rows.size i l)))
-  walked i q r l R (out h e) = inr (refl, out-nothing i q l R (omega (arith, t.rows.size i l)) e)
-  walked i q r l R (on h ne w) = walked (get_or js i 0) q r (omega (arith, t.smaller i l ne)) (on_ready i q l R (omega (arith, t.rows.size i l)) ne) w
+  walked : (q i r : ℕ) → i < length us → Ready us s i q → Walked ns js q i r → Longest us s r ⊎ ((r ≡ length ns) × Nothing us s)
+  walked q i r l R (hit h) = inl (hit-longest i q l R (omega (arith, t.rows.size i l)))
+  walked q i r l R (out h e) = inr (refl, out-nothing i q l R (omega (arith, t.rows.size i l)) e)
+  walked q i r l R (on h ne w) = walked q (get_or js i 0) r (omega (arith, t.smaller i l ne)) (on_ready i q l R (omega (arith, t.rows.size i l)) ne) w
 
   -- the halving and the walk together
   pub found : (i q r : ℕ) → Halved us s i q → Walked ns js q i r → Longest us s r ⊎ ((r ≡ length ns) × Nothing us s)
-  found i q r H w = walked i q r H.in_table (ready i q H) w
+  found i q r H w = walked q i r H.in_table (ready i q H) w

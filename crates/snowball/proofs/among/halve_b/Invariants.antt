@@ -1,0 +1,14 @@
+-- `among::halve_b` meets its contract. The invariant is `Half`; the measure is twice the width of the range, and one more while the first key has not been inspected by itself. Assumes nothing.
+use Prim.Native.Nat.{◌+◌, ◌-◌, ◌*◌}
+use Rattle.snowball.specs.Rows.{keys_back}
+use Rattle.snowball.specs.Search.{behind}
+use Rattle.snowball.proofs.Halving.{Half, left}
+use Rattle.snowball.proofs.among.halve_b.Given as goal
+
+abbrev pub invariant-loop-j : goal.invariant-loop-j
+invariant-loop-j l =
+    Half (keys_back l.rows l.lens) (behind l.text l.cursor l.limit_backward) l.i l.j l.common_i l.common_j l.first_key_inspected
+
+abbrev pub decreases-loop-j : goal.decreases-loop-j
+decreases-loop-j l =
+    (l.j - l.i) * 2 + left l.first_key_inspected

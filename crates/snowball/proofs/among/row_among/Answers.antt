@@ -1,0 +1,37 @@
+-- `among::row_among` meets its contract: the halving and the walk find the longest row. Assumes nothing.
+use mathlib.Core.Path.{sym, ◌∙◌, subst}
+use Prim.Native.Nat.{ℕ, ◌<◌}
+use native.Mathlib.Omega.{arith}
+use Rattle.snowball.specs.Rows.{keys}
+use Rattle.snowball.specs.Search.{between, hit}
+use Rattle.snowball.proofs.Table.{in_table}
+use Rattle.snowball.proofs.Answers.{row_ahead}
+use Rattle.snowball.proofs.among.row_among.Goals as goal
+
+pub bounds-lens-row : goal.bounds-lens-row
+bounds-lens-row c =
+    let t = in_table (keys c.args.rows.now c.args.lens.now) c.args.lens.now c.args.links.now c.requires.t in
+    omega (arith, c.halve-p.ensures.in_table, t.rows.ns_length)
+
+pub returns-then-wide-common : goal.returns-then-wide-common
+returns-then-wide-common c =
+    let a = c in
+    let p = c.halve-p in
+    λ cs e. row_ahead a.args.rows.now a.args.lens.now a.args.links.now p.result.row p.result.common p.result.row cs e
+    (between a.args.text.now a.args.cursor a.args.limit) a.requires.t p.ensures (hit (omega (arith, c.wide.ensures, c.if-wide-common.true)))
+
+pub walk-requires : goal.walk-requires
+walk-requires c =
+    let t = in_table (keys c.args.rows.now c.args.lens.now) c.args.lens.now c.args.links.now c.requires.t in
+    let l = t.rows.ns_length in
+    record {
+      i_in_bounds = (omega (arith, c.halve-p.ensures.in_table), t.js_length ∙ sym l);
+      by_index = λ k h n. t.smaller k (subst (λ (m : ℕ). k < m) l h) n;
+    }
+
+pub returns : goal.returns
+returns c =
+    let a = c in
+    let p = c.halve-p in
+    λ cs e. row_ahead a.args.rows.now a.args.lens.now a.args.links.now p.result.row p.result.common c.walk.result cs e
+    (between a.args.text.now a.args.cursor a.args.limit) a.requires.t p.ensures c.walk.ensures

@@ -1,0 +1,19 @@
+-- `Env::slice_from` meets its contract. Assumes nothing.
+use native.Mathlib.Omega.{arith}
+use Rattle.snowball.proofs.Standing.{cursor-within}
+use Rattle.snowball.proofs.Slicing.{sliced}
+use Rattle.snowball.proofs.env.Env.slice_from.Goals as goal
+
+pub replace_s-requires : goal.replace_s-requires
+replace_s-requires c =
+    let x = c.args.self in
+    let p = c.requires in
+    (p.0.1.within, cursor-within x p.0.0 p.0.1, p.1, p.2, p.3)
+
+pub returns : goal.returns
+returns c =
+    let a = c in
+    let r = c.replace_s in (
+      record { bra = r.ensures.bra; ket = r.ensures.ket },
+      λ cs sc k. sliced a.args.self r.result a.args.s.now cs a.requires.1 r.ensures (omega (arith, r.ensures.limit, a.requires.3)) sc k,
+    )
