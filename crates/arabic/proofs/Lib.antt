@@ -16,4 +16,3 @@ pub mod Changes
 pub mod Finishing
 pub mod Standing
 pub mod Checking
-pub mod Lending

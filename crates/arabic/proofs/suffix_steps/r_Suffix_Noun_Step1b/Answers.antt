@@ -1,0 +1,10 @@
+-- `suffix_steps::r_Suffix_Noun_Step1b` meets its contract: its table is A_11, with its guards. Assumes nothing.
+use mathlib.Core.Path.{refl}
+use Rattle.definition.specs.Tables.{A_11}
+use Rattle.definition.specs.Endings.{noun_step1b, suffix}
+use Rattle.utf8.specs.Utf8.{encode1, encode}
+use Rattle.arabic.proofs.suffix_steps.r_Suffix_Noun_Step1b.Goals as goal
+
+pub returns : goal.returns
+unfolding suffix A_11 encode encode1
+returns c = λ v st. c.cut_ending.ensures noun_step1b v st (c.ending-f.ensures.takes_ending noun_step1b refl refl refl v.text st.stands.scalars st.stands.bytes)

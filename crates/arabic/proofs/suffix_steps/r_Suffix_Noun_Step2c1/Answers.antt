@@ -1,0 +1,10 @@
+-- `suffix_steps::r_Suffix_Noun_Step2c1` meets its contract: its table is A_14, with its guards. Assumes nothing.
+use mathlib.Core.Path.{refl}
+use Rattle.definition.specs.Tables.{A_14}
+use Rattle.definition.specs.Endings.{noun_step2c1, suffix}
+use Rattle.utf8.specs.Utf8.{encode1, encode}
+use Rattle.arabic.proofs.suffix_steps.r_Suffix_Noun_Step2c1.Goals as goal
+
+pub returns : goal.returns
+unfolding suffix A_14 encode encode1
+returns c = λ v st. c.cut_ending.ensures noun_step2c1 v st (c.ending-f.ensures.takes_ending noun_step2c1 refl refl refl v.text st.stands.scalars st.stands.bytes)

@@ -1,0 +1,10 @@
+-- `suffix_steps::r_Suffix_Noun_Step3` meets its contract: its table is A_16, with its guards. Assumes nothing.
+use mathlib.Core.Path.{refl}
+use Rattle.definition.specs.Tables.{A_16}
+use Rattle.definition.specs.Endings.{noun_step3, suffix}
+use Rattle.utf8.specs.Utf8.{encode1, encode}
+use Rattle.arabic.proofs.suffix_steps.r_Suffix_Noun_Step3.Goals as goal
+
+pub returns : goal.returns
+unfolding suffix A_16 encode encode1
+returns c = λ v st. c.cut_ending.ensures noun_step3 v st (c.ending-f.ensures.takes_ending noun_step3 refl refl refl v.text st.stands.scalars st.stands.bytes)

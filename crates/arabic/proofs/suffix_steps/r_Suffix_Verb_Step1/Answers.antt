@@ -1,0 +1,10 @@
+-- `suffix_steps::r_Suffix_Verb_Step1` meets its contract: its table is A_17, with its guards. Assumes nothing.
+use mathlib.Core.Path.{refl}
+use Rattle.definition.specs.Tables.{A_17}
+use Rattle.definition.specs.Endings.{verb_step1, suffix}
+use Rattle.utf8.specs.Utf8.{encode1, encode}
+use Rattle.arabic.proofs.suffix_steps.r_Suffix_Verb_Step1.Goals as goal
+
+pub returns : goal.returns
+unfolding suffix A_17 encode encode1
+returns c = λ v st. c.cut_ending.ensures verb_step1 v st (c.ending-f.ensures.takes_ending verb_step1 refl refl refl v.text st.stands.scalars st.stands.bytes)

@@ -1,0 +1,10 @@
+-- `suffix_steps::r_Suffix_Verb_Step2c` meets its contract: its table is A_20, with its guards. Assumes nothing.
+use mathlib.Core.Path.{refl}
+use Rattle.definition.specs.Tables.{A_20}
+use Rattle.definition.specs.Endings.{verb_step2c, suffix}
+use Rattle.utf8.specs.Utf8.{encode1, encode}
+use Rattle.arabic.proofs.suffix_steps.r_Suffix_Verb_Step2c.Goals as goal
+
+pub returns : goal.returns
+unfolding suffix A_20 encode encode1
+returns c = λ v st. c.cut_ending.ensures verb_step2c v st (c.ending-f.ensures.takes_ending verb_step2c refl refl refl v.text st.stands.scalars st.stands.bytes)
