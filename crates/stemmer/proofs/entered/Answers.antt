@@ -2,18 +2,14 @@
 use native.Mathlib.Omega.{arith}
 use Rattle.stemmer.specs.Entries.{letters}
 use Rattle.stemmer.proofs.Answers.{short, scalars, spelling}
-use Rattle.stemmer.proofs.entered.Statement.{statement}
-use Rattle.stemmer.proofs.entered.Tie as tie
+use Rattle.stemmer.proofs.entered.Goals as goal
 
-create-requires : tie.Need-create-requires
-create-requires c κs = omega (arith, short c.before.args.word.now c.before.requires)
+pub create-requires : goal.create-requires
+create-requires c = omega (arith, short c.args.word.now c.requires)
 
-returns : tie.Need-returns
+pub returns : goal.returns
 returns c =
-    let s = c.before.before in
+    let s = c in
     let w = s.args.word.now in
     let m = c.create.ensures in
     (m.1 (letters w) (scalars w s.requires) (spelling w s.requires), omega (arith, m.0.limit, short w s.requires))
-
-pub entered-spec : {M : Type 1} → statement M
-entered-spec = tie.close (tie.spec create-requires returns)
