@@ -91,7 +91,7 @@ fn skip_mark(line: &[u8], opening: bool, len: usize) -> State
 {
     if opening {
         if len == 3 {
-            if &line[..3] == b"\xEF\xBB\xBF" {
+            if &line[..3] == b"\xEF\xBB\xBF".as_slice() {
                 return State {
                     opening: false,
                     len: 0,

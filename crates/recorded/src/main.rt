@@ -5,127 +5,101 @@
 
 mod rows;
 
-ghost use Rattle.std.specs.Prelude.{◌≡◌, ◌≤◌, length};
+ghost use Rattle.std.specs.Prelude.{◌≡◌, ◌≤◌, IfOk, length};
 ghost use Rattle.recorded.specs.Sizes.{line_bytes};
 
-use libc::{STDIN_FILENO, STDOUT_FILENO};
+use std::io;
+use std::io::{BufReader, BufWriter, Read, Write};
 use stemmer::{Answer, ROOM};
 
 // The bytes of a line that are kept: more than a word may have.
 const LINE: usize = 512;
 
-fn write(text: &[u8]) {
-    io::write_all(STDOUT_FILENO, text);
-}
-
-fn write_answer(a: Answer, out: &[u8]) {
-    match a {
+fn write_answer(output: &mut impl Write, answer: Answer, out: &[u8]) -> io::Result<()> {
+    match answer {
         Answer::Done(count) => {
             if count <= out.len() {
-                write(&out[..count]);
+                output.write_all(&out[..count])?;
             }
+            Ok(())
         }
-        Answer::TooLong => write(b"?1"),
-        Answer::NotWellFormed => write(b"?2"),
-        Answer::NoRoom => write(b"?3"),
+        Answer::TooLong => write!(output, "?1"),
+        Answer::NotWellFormed => write!(output, "?2"),
+        Answer::NoRoom => write!(output, "?3"),
     }
 }
 
-fn write_kind(code: u32, defined: bool) {
-    if code == 1 {
-        write(b"?1");
-        return;
+fn write_kind(output: &mut impl Write, code: u32, defined: bool) -> io::Result<()> {
+    match (code, defined) {
+        (1, _) => write!(output, "?1"),
+        (2, _) => write!(output, "?2"),
+        (_, true) => write!(output, "1"),
+        (_, false) => write!(output, "0"),
     }
-    if code == 2 {
-        write(b"?2");
-        return;
-    }
-    if defined {
-        write(b"1");
-        return;
-    }
-    write(b"0");
 }
 
-fn answer_stem(word: &[u8], out: &mut [u8]) {
-    let s = stemmer::stem(word, out);
-    let a = s.answer;
-    write_answer(a, out);
-    write(b"\t");
-    io::print_decimal(STDOUT_FILENO, s.endings as u64);
+fn answer_stem(output: &mut impl Write, word: &[u8], out: &mut [u8]) -> io::Result<()> {
+    let found = stemmer::stem(word, out);
+    let endings = found.endings;
+    write_answer(output, found.answer, out)?;
+    write!(output, "\t{endings}")
 }
 
-fn answer_others(word: &[u8], out: &mut [u8]) {
-    let k = stemmer::kind(word);
-    let kind = k.kind;
-    write_kind(k.code, kind.defined);
-    write(b"\t");
-    let n = stemmer::normalise(word, out);
-    write_answer(n, out);
-    write(b"\t");
-    let f = stemmer::finish(word, out);
-    write_answer(f, out);
+fn answer_others(output: &mut impl Write, word: &[u8], out: &mut [u8]) -> io::Result<()> {
+    let found = stemmer::kind(word);
+    write_kind(output, found.code, found.kind.defined)?;
+    write!(output, "\t")?;
+    let normalised = stemmer::normalise(word, out);
+    write_answer(output, normalised, out)?;
+    write!(output, "\t")?;
+    let finished = stemmer::finish(word, out);
+    write_answer(output, finished, out)
 }
 
-fn answer(word: &[u8], out: &mut [u8]) {
-    answer_stem(word, out);
-    write(b"\t");
-    answer_others(word, out);
-    write(b"\t");
-    rows::write_rows(word);
-    write(b"\n");
+fn answer(output: &mut impl Write, word: &[u8], out: &mut [u8]) -> io::Result<()> {
+    answer_stem(output, word, out)?;
+    write!(output, "\t")?;
+    answer_others(output, word, out)?;
+    write!(output, "\t")?;
+    rows::write_rows(output, word)?;
+    writeln!(output)
 }
 
 // Takes one byte of the input, and answers how many bytes the line then has. LF answers the line.
-fn take_byte(b: u8, line: &mut [u8], len: usize, out: &mut [u8]) -> usize
+fn take_byte(
+    output: &mut impl Write,
+    byte: u8,
+    line: &mut [u8],
+    len: usize,
+    out: &mut [u8],
+) -> io::Result<usize>
     requires { (length line.old ≡ line_bytes) × (len ≤ line_bytes) }
-    ensures { result ≤ line_bytes }
+    ensures { IfOk result (λ count. count ≤ line_bytes) }
 {
-    if b == b'\n' {
-        answer(&line[..len], out);
-        return 0;
+    if byte == b'\n' {
+        answer(output, &line[..len], out)?;
+        return Ok(0);
     }
     if len < LINE {
-        line[len] = b;
-        return len + 1;
+        line[len] = byte;
+        return Ok(len + 1);
     }
-    len
+    Ok(len)
 }
 
-// The next byte of the input, if there is one.
-#[derive(Drop)]
-struct Next {
-    more: bool,
-    byte: u8,
-}
-
-fn next_byte() -> Next {
-    let mut byte = [0u8; 1];
-    let got = io::read_full(STDIN_FILENO, &mut byte);
-    Next {
-        more: got > 0,
-        byte: byte[0],
-    }
-}
-
-// A proved loop has to end, and nothing says that the input does: the reads are counted down from a number that no run uses up.
-fn run(line: &mut [u8], out: &mut [u8])
-    requires { length line.old ≡ line_bytes }
-{
-    let mut len = 0;
-    let mut reads = u64::MAX;
-    while reads > 0 {
-        let next = next_byte();
-        if !next.more {
-            return;
-        }
-        len = take_byte(next.byte, line, len, out);
-        reads -= 1;
-    }
-}
-
-fn main() {
+fn run(input: impl Read + Drop, output: &mut impl Write) -> io::Result<()> {
     let mut line = [0u8; LINE];
     let mut out = [0u8; ROOM];
-    run(&mut line, &mut out);
+    let mut len = 0;
+    for byte in input.bytes() {
+        len = take_byte(output, byte?, &mut line, len, &mut out)?;
+    }
+    Ok(())
+}
+
+fn main(rt: HostRuntime) -> io::Result<()> {
+    let input = BufReader::new(rt.alloc(), rt.stdin())?;
+    let mut output = BufWriter::new(rt.alloc(), rt.stdout())?;
+    run(input, &mut output)?;
+    output.flush()
 }

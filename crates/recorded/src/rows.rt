@@ -16,18 +16,14 @@ use arabic::suffix_steps::{
     r_Suffix_Noun_Step2c1, r_Suffix_Noun_Step2c2, r_Suffix_Noun_Step3, r_Suffix_Verb_Step1,
     r_Suffix_Verb_Step2a, r_Suffix_Verb_Step2b, r_Suffix_Verb_Step2c,
 };
-use libc::STDOUT_FILENO;
 use snowball::env::Env;
+use std::io;
+use std::io::Write;
 use stemmer::LONGEST;
 use utf8::well_formed;
 
-fn write_row(row: usize) {
-    io::print_decimal(STDOUT_FILENO, row as u64);
-}
-
-fn write_next(row: usize) {
-    io::write_all(STDOUT_FILENO, b" ");
-    write_row(row);
+fn write_next(output: &mut impl Write, row: usize) -> io::Result<()> {
+    write!(output, " {row}")
 }
 
 fn at_front(word: &[u8]) -> Env
@@ -48,86 +44,73 @@ fn at_end(word: &[u8]) -> Env
     env
 }
 
-fn write_verb_rows(word: &[u8])
+fn write_verb_rows(output: &mut impl Write, word: &[u8]) -> io::Result<()>
     requires { Spelt word.now (length word.now) × (length word.now ≤ work_size) }
 {
-    let a = r_Suffix_Verb_Step1(at_end(word));
-    write_next(a.row);
-    let b = r_Suffix_Verb_Step2a(at_end(word));
-    write_next(b.row);
-    let c = r_Suffix_Verb_Step2b(at_end(word));
-    write_next(c.row);
-    let d = r_Suffix_Verb_Step2c(at_end(word));
-    write_next(d.row);
+    write_next(output, r_Suffix_Verb_Step1(at_end(word)).row)?;
+    write_next(output, r_Suffix_Verb_Step2a(at_end(word)).row)?;
+    write_next(output, r_Suffix_Verb_Step2b(at_end(word)).row)?;
+    write_next(output, r_Suffix_Verb_Step2c(at_end(word)).row)
 }
 
-fn write_first_noun_rows(word: &[u8])
+fn write_first_noun_rows(output: &mut impl Write, word: &[u8]) -> io::Result<()>
     requires { Spelt word.now (length word.now) × (length word.now ≤ work_size) }
 {
-    let a = r_Suffix_Noun_Step1b(at_end(word));
-    write_next(a.row);
-    let b = r_Suffix_Noun_Step2a(at_end(word));
-    write_next(b.row);
-    let c = r_Suffix_Noun_Step2b(at_end(word));
-    write_next(c.row);
+    write_next(output, r_Suffix_Noun_Step1b(at_end(word)).row)?;
+    write_next(output, r_Suffix_Noun_Step2a(at_end(word)).row)?;
+    write_next(output, r_Suffix_Noun_Step2b(at_end(word)).row)
 }
 
-fn write_other_noun_rows(word: &[u8])
+fn write_other_noun_rows(output: &mut impl Write, word: &[u8]) -> io::Result<()>
     requires { Spelt word.now (length word.now) × (length word.now ≤ work_size) }
 {
-    let a = r_Suffix_Noun_Step2c1(at_end(word));
-    write_next(a.row);
-    let b = r_Suffix_Noun_Step2c2(at_end(word));
-    write_next(b.row);
-    let c = r_Suffix_Noun_Step3(at_end(word));
-    write_next(c.row);
+    write_next(output, r_Suffix_Noun_Step2c1(at_end(word)).row)?;
+    write_next(output, r_Suffix_Noun_Step2c2(at_end(word)).row)?;
+    write_next(output, r_Suffix_Noun_Step3(at_end(word)).row)
 }
 
-fn write_last_row(word: &[u8])
+fn write_last_row(output: &mut impl Write, word: &[u8]) -> io::Result<()>
     requires { Spelt word.now (length word.now) × (length word.now ≤ work_size) }
 {
-    let a = r_Suffix_All_alef_maqsura(at_end(word));
-    write_next(a.row);
+    write_next(output, r_Suffix_All_alef_maqsura(at_end(word)).row)
 }
 
-fn write_front_rows(word: &[u8], context: Context)
+fn write_front_rows(output: &mut impl Write, word: &[u8], context: Context) -> io::Result<()>
     requires { Spelt word.now (length word.now) × (length word.now ≤ work_size) }
 {
     let a = r_Prefix_Step1(at_front(word));
-    write_next(a.row);
+    write_next(output, a.row)?;
     let b = r_Prefix_Step2(a.tried.env);
-    write_next(b.row);
+    write_next(output, b.row)?;
     let c = r_Prefix_Step3a_Noun(b.tried.env);
-    write_next(c.row);
+    write_next(output, c.row)?;
     let d = r_Prefix_Step3b_Noun(c.tried.env);
-    write_next(d.row);
+    write_next(output, d.row)?;
     let e = r_Prefix_Step3_Verb(d.tried.env);
-    write_next(e.row);
+    write_next(output, e.row)?;
     let f = step4_verb(e.tried.env, context);
-    write_next(f.searched.row);
+    write_next(output, f.searched.row)
 }
 
-fn write_all_rows(word: &[u8])
+fn write_all_rows(output: &mut impl Write, word: &[u8]) -> io::Result<()>
     requires { Spelt word.now (length word.now) × (length word.now ≤ work_size) }
 {
     let c = checked(word, word.len());
-    write_row(c.row);
-    write_verb_rows(word);
-    write_first_noun_rows(word);
-    write_other_noun_rows(word);
-    write_last_row(word);
-    write_front_rows(word, c.context);
+    write!(output, "{}", c.row)?;
+    write_verb_rows(output, word)?;
+    write_first_noun_rows(output, word)?;
+    write_other_noun_rows(output, word)?;
+    write_last_row(output, word)?;
+    write_front_rows(output, word, c.context)
 }
 
 // The rows, or the refusal of a word that no step gets.
-pub fn write_rows(word: &[u8]) {
+pub fn write_rows(output: &mut impl Write, word: &[u8]) -> io::Result<()> {
     if word.len() > LONGEST {
-        io::write_all(STDOUT_FILENO, b"?1");
-        return;
+        return write!(output, "?1");
     }
     if well_formed(word) {
-        write_all_rows(word);
-        return;
+        return write_all_rows(output, word);
     }
-    io::write_all(STDOUT_FILENO, b"?2");
+    write!(output, "?2")
 }

@@ -3,198 +3,99 @@
 // A read or a write that fails is said on standard error, and nothing more is read or written.
 #![tactic(auto)]
 
-ghost use Rattle.std.specs.Prelude.{true, ◌≡◌, ◌≤◌, length};
+mod patient;
+
+ghost use Rattle.std.specs.Prelude.{◌≡◌, ◌≤◌, IfOk, length};
 ghost use Rattle.lines.specs.Machine.{kept_bytes, line_room, reading, after};
 
-use libc::types::timespec;
-use libc::{STDIN_FILENO, STDOUT_FILENO};
+use patient::Patient;
+use std::io::{ErrorKind, Read, Write};
+use std::{fmt, io};
 
-// How long a wait is: a millisecond, in nanoseconds.
-const WAIT_NANOSECONDS: i64 = 1000000;
+// The most bytes that are read or written at once.
+const BUFFER_BYTES: usize = 65536;
 
-// Sleeps for that long, or until a signal comes.
-fn wait_a_moment() {
-    let asked = timespec {
-        tv_sec: 0,
-        tv_nsec: WAIT_NANOSECONDS,
-    };
-    let mut left = timespec {
-        tv_sec: 0,
-        tv_nsec: 0,
-    };
-    libc::nanosleep(&asked, &mut left);
-}
-
-// Whether the call that just failed is to be made again: after a signal, and where there is nothing to read or no room yet,
-// which waits a moment first.
-fn again() -> bool {
-    let error = os::errno();
-    if error == libc::EAGAIN {
-        wait_a_moment();
-        return true;
-    }
-    error == libc::EINTR
-}
-
-// Says that standard output or standard input failed, and why.
-fn say_output() {
-    os::fail(b"stem_lines: standard output");
-}
-
-fn say_input() {
-    os::fail(b"stem_lines: standard input");
-}
-
-// One write: how many bytes were taken, or 0 where it failed, which is said. A proved loop has to end, and nothing says that
-// there will be room: the tries are counted down from a number that no run uses up.
-fn write_some(bytes: &[u8]) -> usize
-    ensures { result ≤ length bytes.now }
-{
-    let mut tries = u64::MAX;
-    while tries > 0 {
-        let put = libc::write(STDOUT_FILENO, bytes);
-        if put > 0 {
-            return io::count(put, bytes);
-        }
-        if put == 0 || !again() {
-            break;
-        }
-        tries -= 1;
-    }
-    say_output();
-    0
-}
-
-// Writes all bytes, and answers whether it did.
-fn write_all(bytes: &[u8]) -> bool {
-    let mut at = 0;
-    while at < bytes.len() {
-        let n = write_some(&bytes[at..]);
-        if n == 0 {
-            return false;
-        }
-        at += n;
-    }
-    true
-}
-
-// One read: how many bytes came, 0 at the end of the input, or -1 where it failed, which is said. The tries are counted as in `write_some`.
-fn read_some(buf: &mut [u8]) -> isize {
-    let mut tries = u64::MAX;
-    while tries > 0 {
-        let got = libc::read(STDIN_FILENO, buf);
-        if got >= 0 {
-            return got;
-        }
-        if !again() {
-            break;
-        }
-        tries -= 1;
-    }
-    say_input();
-    -1
-}
-
-// The state that a chunk or a read leaves, and whether nothing failed.
+// Which stream failed, and why.
 #[derive(Drop)]
-struct Left {
-    state: lines::State,
-    good: bool,
+enum Failure {
+    Input(io::Error),
+    Output(io::Error),
 }
 
-// Takes all bytes of a chunk: what they make the machine write goes to standard output, up to the first write that fails.
-fn pump(input: &[u8], line: &mut [u8], state: lines::State, out: &mut [u8]) -> Left
+// What is said of a failure that `main` returns.
+impl fmt::Debug for Failure {
+    fn fmt<W: fmt::Write>(&self, f: &mut fmt::Formatter<W>) -> fmt::Result {
+        match self {
+            Failure::Input(error) => write!(f, "stem_lines: standard input: {error}"),
+            Failure::Output(error) => write!(f, "stem_lines: standard output: {error}"),
+        }
+    }
+}
+
+// Takes all bytes of a chunk: what they make the machine write goes to the output, up to the first write that fails.
+fn pump<W: Write>(
+    input: &[u8],
+    line: &mut [u8],
+    state: lines::State,
+    out: &mut [u8],
+    output: &mut W,
+) -> Result<lines::State, Failure>
     requires kept_bytes_in_bounds { (kept_bytes ≤ length line.old) × (state.len ≤ kept_bytes) }
     requires line_room_in_bounds { line_room ≤ length out.old }
-    ensures len_le_kept_bytes { result.state.len ≤ kept_bytes }
-    ensures line_after { result.good ≡ true → reading result.state line.new ≡ after (reading state line.old) input.now }
+    ensures len_le_kept_bytes { IfOk result (λ left. left.len ≤ kept_bytes) }
+    ensures line_after { IfOk result (λ left. reading left line.new ≡ after (reading state line.old) input.now) }
 {
-    let mut s = state;
+    let mut state = state;
     let mut at = 0;
     while at < input.len() {
-        let t = lines::feed(&input[at..], line, s, out);
-        let count = t.count;
-        s = t.state;
-        if !write_all(&out[..count]) {
-            return Left {
-                state: s,
-                good: false,
-            };
-        }
-        at += t.used;
+        let fed = lines::feed(&input[at..], line, state, out);
+        let count = fed.count;
+        state = fed.state;
+        output.write_all(&out[..count]).map_err(Failure::Output)?;
+        at += fed.used;
     }
-    Left {
-        state: s,
-        good: true,
-    }
-}
-
-// The state after a read, whether nothing failed, and whether to go on.
-#[derive(Drop)]
-struct Read {
-    state: lines::State,
-    good: bool,
-    more: bool,
-}
-
-// One read, and all that came of it.
-fn read_once(line: &mut [u8], state: lines::State, buf: &mut [u8], out: &mut [u8]) -> Read
-    requires kept_bytes_in_bounds { (kept_bytes ≤ length line.old) × (state.len ≤ kept_bytes) }
-    requires line_room_in_bounds { line_room ≤ length out.old }
-    ensures { result.state.len ≤ kept_bytes }
-{
-    let got = read_some(buf);
-    if got <= 0 {
-        return Read {
-            state: state,
-            good: got == 0,
-            more: false,
-        };
-    }
-    let n = io::count(got, buf);
-    let left = pump(&buf[..n], line, state, out);
-    let s = left.state;
-    Read {
-        state: s,
-        good: left.good,
-        more: left.good,
-    }
+    Ok(state)
 }
 
 // Writes the last line, if there is one.
-fn end(line: &[u8], state: lines::State, out: &mut [u8])
+fn end<W: Write>(
+    line: &[u8],
+    state: lines::State,
+    out: &mut [u8],
+    output: &mut W,
+) -> Result<(), Failure>
     requires len_in_bounds { state.len ≤ length line.now }
     requires line_room_in_bounds { line_room ≤ length out.old }
 {
-    let n = lines::finish(line, state, out);
-    write_all(&out[..n]);
+    let count = lines::finish(line, state, out);
+    output.write_all(&out[..count]).map_err(Failure::Output)
 }
 
 // The whole input, up to the first read or write that fails: then the rest of the line is not known, or a gap is in front of it, and
-// no last line is written. The reads are counted as the tries in `write_some`.
-fn run(line: &mut [u8], buf: &mut [u8], out: &mut [u8])
-    requires kept_bytes_in_bounds { kept_bytes ≤ length line.old }
-    requires line_room_in_bounds { line_room ≤ length out.old }
-{
-    let mut s = lines::State::start();
-    let mut good = true;
-    let mut more = true;
-    let mut reads = u64::MAX;
-    while reads > 0 && more {
-        let r = read_once(line, s, buf, out);
-        s = r.state;
-        good = r.good;
-        more = r.more;
-        reads -= 1;
+// no last line is written. The reads are counted, up to a number that no run reaches.
+fn run<R: Read, W: Write>(input: &mut R, output: &mut W) -> Result<(), Failure> {
+    let mut buf = [0u8; BUFFER_BYTES];
+    let mut out = [0u8; BUFFER_BYTES];
+    let mut line = [0u8; lines::KEPT_BYTES];
+    let mut state = lines::State::start();
+    for _ in 0..u64::MAX {
+        let count = input.read(&mut buf).map_err(Failure::Input)?;
+        if count == 0 {
+            return end(&line, state, &mut out, output);
+        }
+        state = pump(&buf[..count], &mut line, state, &mut out, output)?;
     }
-    if good {
-        end(line, s, out);
-    }
+    Err(Failure::Input(ErrorKind::TimedOut.into()))
 }
 
-fn main() {
-    let mut buf = io::large_buffer();
-    let mut out = io::large_buffer();
-    let mut line = [0u8; lines::KEPT_BYTES];
-    run(&mut line, &mut buf, &mut out);
+fn main(rt: HostRuntime) -> Result<(), Failure> {
+    let mut input = Patient {
+        clock: &rt,
+        stream: rt.stdin(),
+    };
+    let mut output = Patient {
+        clock: &rt,
+        stream: rt.stdout(),
+    };
+    run(&mut input, &mut output)
 }
