@@ -11,8 +11,8 @@ library_path() {
         return
     fi
     (cd "$root" && ./build-library) >&2 || { echo "./build-library failed; a library that is there already can be given by --library PATH" >&2; return 2; }
-    local built=$root/target/staticlib/libarabic_stemmer.a
-    [ -f "$built" ] || { echo "no target/staticlib/libarabic_stemmer.a after the build" >&2; return 2; }
+    local built=$root/crates/arabic_stemmer/out/libarabic_stemmer.a
+    [ -f "$built" ] || { echo "no crates/arabic_stemmer/out/libarabic_stemmer.a after the build" >&2; return 2; }
     realpath "$built"
 }
 

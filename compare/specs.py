@@ -48,7 +48,7 @@ def numbers(text):
 
 def rule(text, left):
     """The number of the table and the guards of a clause with a `rule`."""
-    m = re.search(r'rule «A_(\d+)» \(([^)]*)\)', clause(text, left))
+    m = re.search(r'rule A_(\d+) \(([^)]*)\)', clause(text, left))
     return int(m.group(1)), numbers(m.group(2))
 
 
@@ -59,7 +59,7 @@ def rules(text, function):
 
 def tables(text):
     """The tables of a text, by their numbers."""
-    return {int(n): rows_of(clause(text, f'«A_{n}»')) for n in re.findall(r'^«A_(\d+)» =', text, re.M)}
+    return {int(n): rows_of(clause(text, f'A_{n}')) for n in re.findall(r'^A_(\d+) =', text, re.M)}
 
 
 def words_of(text):
@@ -81,7 +81,7 @@ def steps():
     for name, (table, guards) in {'checks1': rule(spec('Kind'), 'kind w'), **rules(spec('Endings'), 'suffix')}.items():
         yield name, table, guards, [], []
     for name, (table, guards) in rules(fronts, 'prefix').items():
-        yield name, table, guards, words_of(clause(fronts, f'replacements {name}')), words_of(clause(fronts, f'notAt {name}'))
+        yield name, table, guards, words_of(clause(fronts, f'replacements {name}')), words_of(clause(fronts, f'not_at {name}'))
 
 
 def examples():
@@ -92,7 +92,7 @@ def examples():
         yield word(w), word(s), k, None
     for w, k, _, _, s in re.findall(rf'\bworked {one}\s+(OPEN|DEFINED)\s+{one}\s+{one}\s+{one}', text):
         yield word(w), word(s), k, None
-    for w, n in re.findall(rf'\bnormalSample {one}\s+{one}', text):
+    for w, n in re.findall(rf'\bnormal_sample {one}\s+{one}', text):
         yield word(w), None, None, word(n)
 
 

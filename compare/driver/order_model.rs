@@ -21,8 +21,8 @@ include!("tables.rs");
 
 /// The places where steps stand in an order, each with the number of its entries.
 pub const PLACES: [(&str, usize); 13] = [
-    ("way", 5), ("ends", 3), ("verbs", 3), ("verbTurns", 2), ("verbSequel", 3), ("nounTurns", 2), ("nouns", 5), ("step1bTurns", 2), ("step1bSequel", 3),
-    ("fronts", 3), ("thirds", 3), ("verbFronts", 2), ("finishing", 2),
+    ("way", 5), ("ends", 3), ("verbs", 3), ("verb_turns", 2), ("verb_sequel", 3), ("noun_turns", 2), ("nouns", 5), ("step1b_turns", 2), ("step1b_sequel", 3),
+    ("fronts", 3), ("thirds", 3), ("verb_fronts", 2), ("finishing", 2),
 ];
 pub const WAY: usize = 0;
 pub const ENDS: usize = 1;

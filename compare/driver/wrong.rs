@@ -10,8 +10,8 @@ use std::collections::BTreeMap;
 use std::io::{self, BufRead, Write};
 
 const STEPS: [&str; 17] = [
-    "checks1", "prefixStep1", "prefixStep2", "prefixStep3aNoun", "prefixStep3bNoun", "prefixStep3Verb", "prefixStep4Verb", "nounStep1b", "nounStep2a", "nounStep2b",
-    "nounStep2c1", "nounStep2c2", "nounStep3", "verbStep1", "verbStep2a", "verbStep2b", "verbStep2c",
+    "checks1", "prefix_step1", "prefix_step2", "prefix_step3a_noun", "prefix_step3b_noun", "prefix_step3_verb", "prefix_step4_verb", "noun_step1b", "noun_step2a", "noun_step2b",
+    "noun_step2c1", "noun_step2c2", "noun_step3", "verb_step1", "verb_step2a", "verb_step2b", "verb_step2c",
 ];
 const CHECKS1: usize = 0;
 const PREFIX_STEP1: usize = 1;
