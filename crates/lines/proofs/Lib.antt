@@ -10,3 +10,4 @@ pub mod Splitting
 pub mod Whole
 pub mod Calling
 pub mod Questions
+pub mod Feeding
