@@ -6,7 +6,7 @@ ghost use Rattle.std.specs.Prelude.{◌≡◌, ◌≤◌, length};
 ghost use Rattle.edges.specs.Sizes.{space, largest};
 
 use std::io;
-use std::io::{BufWriter, Write};
+use std::io::Write;
 use stemmer::{Answer, LONGEST, ROOM, StemAnswer};
 
 // The largest output that is lent, and how many bytes behind an output are printed with it.
@@ -256,7 +256,7 @@ fn endings(output: &mut impl Write) -> io::Result<()> {
 
 fn main(rt: HostRuntime) -> io::Result<()> {
     let book = b"\xD8\xA7\xD9\x84\xD9\x83\xD8\xAA\xD8\xA7\xD8\xA8";
-    let mut output = BufWriter::new(rt.alloc(), rt.stdout())?;
+    let mut output = rt.stdout();
     too_long(&mut output)?;
     growing(&mut output)?;
     not_well_formed(&mut output)?;
@@ -266,6 +266,5 @@ fn main(rt: HostRuntime) -> io::Result<()> {
     long_parts(&mut output)?;
     empty(&mut output)?;
     empty_parts(&mut output)?;
-    endings(&mut output)?;
-    output.flush()
+    endings(&mut output)
 }

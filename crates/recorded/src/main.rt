@@ -9,7 +9,7 @@ ghost use Rattle.std.specs.Prelude.{◌≡◌, ◌≤◌, IfOk, length};
 ghost use Rattle.recorded.specs.Sizes.{line_bytes};
 
 use std::io;
-use std::io::{BufReader, BufWriter, Read, Write};
+use std::io::{Read, Write};
 use stemmer::{Answer, ROOM};
 
 // The bytes of a line that are kept: more than a word may have.
@@ -98,8 +98,5 @@ fn run(input: impl Read + Drop, output: &mut impl Write) -> io::Result<()> {
 }
 
 fn main(rt: HostRuntime) -> io::Result<()> {
-    let input = BufReader::new(rt.alloc(), rt.stdin())?;
-    let mut output = BufWriter::new(rt.alloc(), rt.stdout())?;
-    run(input, &mut output)?;
-    output.flush()
+    run(rt.stdin(), &mut rt.stdout())
 }
