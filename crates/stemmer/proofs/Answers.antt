@@ -29,7 +29,6 @@ use Rattle.stemmer.specs.declared.Checked.TheVariants.{Overlong, Malformed, Acce
 use Rattle.stemmer.specs.Entries.{code_of, count_of, most_bytes, enough_room, letters, bytes_of, checked, after_checks, fitting, answer, out_after, part_after, with_endings, kind_after, kind_answer, Demand3After, FewEndingsOf, stem_entry}
 
 -- ---- checking: each outcome
-
 module _ (word : List ℕ) where
   pub overlong : most_bytes < length word → Overlong ≡ checked word
   unfolding checked
@@ -44,7 +43,6 @@ module _ (word : List ℕ) where
   accepted h e = rw (le-ltb most_bytes (length word) h, e) refl
 
 -- ---- a well-formed word's letters, and an accepted word's length
-
 letters_are : (word cs : List ℕ) → decode word ≡ some cs → letters word ≡ cs
 unfolding letters
 letters_are word cs e = rw e refl
@@ -125,7 +123,6 @@ module _ (f : Word → Word) (word old : List ℕ) where
       (q, (o ∙ ap (λ (bs : List ℕ). out_after r bs old) st.bytes ∙ out_by r q, no_room r v.limit (length old) a st.within))
 
 -- ---- what a Done says
-
 fits_or_not : (b : Bool) (m n : ℕ) → pick b NoRoom (Done m) ≡ Done n → (b ≡ false) × (m ≡ n)
 fits_or_not true m n e = let z : ◌≡◌ {A = ℕ} 3 0 = ap code_of e in absurd (omega arith)
 fits_or_not false m n e = (refl, ap count_of e)
@@ -176,7 +173,6 @@ owed word old new a e o = λ w d z. (
 )
 
 -- ---- the number of endings
-
 with_answer : (a : Answer) (m : ℕ) → (with_endings a m).answer ≡ a
 with_answer (Done n) m = refl
 with_answer TooLong m = refl
@@ -247,7 +243,6 @@ module _ (f : Word → Word) (word old : List ℕ) where
   part_is = parted (answer f word (length old)) refl
 
 -- ---- the kind
-
 pub kind-after : (word : List ℕ) (c : Checked) → checked word ≡ c → kind_after c (kind (letters word)) ≡ kind_answer word
 unfolding kind_answer
 kind-after word c e = sym (ap (λ (x : Checked). kind_after x (kind (letters word))) e)

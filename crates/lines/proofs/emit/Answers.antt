@@ -17,7 +17,6 @@ use Rattle.lines.proofs.Lists.{rejoin, ended}
 use Rattle.lines.proofs.emit.Goals as goal
 
 -- the room that `stem` is lent
-
 lent : (o : List ℕ) → line_room ≤ length o → length (take stem_room o) ≡ stem_room
 lent o h = length-take-le stem_room o (omega arith)
 
@@ -28,7 +27,6 @@ done-small : (w o : List ℕ) (n : ℕ) → line_room ≤ length o → stem_answ
 done-small w o n h e = omega (arith, done-fits w (length (take stem_room o)) n e, lent o h)
 
 -- o is the output before, and part what `stem` left of the room that it was lent
-
 module _ (w o part : List ℕ) (h : line_room ≤ length o)
     (e : part ≡ out_after (stem_answer w (length (take stem_room o))) (stem_bytes w) (take stem_room o)) where
   when-done : (n : ℕ) → stem_answer w (length (take stem_room o)) ≡ Done n

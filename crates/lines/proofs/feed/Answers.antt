@@ -7,7 +7,7 @@ use Rattle.lines.proofs.feed.Goals as goal
 
 pub loop-i-init : goal.loop-i-init
 loop-i-init c =
-    let p = c in (p.requires.0, (p.requires.1, (refl, begun p.args.input.now (reading p.args.state p.args.line.now) p.args.out.now)))
+    (c.requires.0, (c.requires.1, (refl, begun c.args.input.now (reading c.args.state c.args.line.now) c.args.out.now)))
 
 pub loop-i-preserved : goal.loop-i-preserved
 loop-i-preserved c =

@@ -7,13 +7,13 @@ use borrow.Author.Rules.{rules}
 use Rattle.plain_letters.proofs.plain_at.Goals as goal
 
 pub bounds-text-cursor : goal.bounds-text-cursor
-bounds-text-cursor c = let s = c in omega (arith, room_1 s.args.text.now s.args.cursor s.requires)
+bounds-text-cursor c = omega (arith, room_1 c.args.text.now c.args.cursor c.requires)
 
 pub bounds-text-cursor-in-216 : goal.bounds-text-cursor-in-216
-bounds-text-cursor-in-216 c = let s = c in omega (arith, room_2 s.args.text.now s.args.cursor s.requires (omega arith))
+bounds-text-cursor-in-216 c = omega (arith, room_2 c.args.text.now c.args.cursor c.requires (omega arith))
 
 pub bounds-text-cursor-in-217 : goal.bounds-text-cursor-in-217
-bounds-text-cursor-in-217 c = let s = c in omega (arith, room_2 s.args.text.now s.args.cursor s.requires (omega arith))
+bounds-text-cursor-in-217 c = omega (arith, room_2 c.args.text.now c.args.cursor c.requires (omega arith))
 
 pub returns-in-216 : goal.returns-in-216
 returns-in-216 c =

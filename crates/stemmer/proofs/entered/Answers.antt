@@ -9,7 +9,6 @@ create-requires c = omega (arith, short c.args.word.now c.requires)
 
 pub returns : goal.returns
 returns c =
-    let s = c in
-    let w = s.args.word.now in
+    let w = c.args.word.now in
     let m = c.create.ensures in
-    (m.1 (letters w) (scalars w s.requires) (spelling w s.requires), omega (arith, m.0.limit, short w s.requires))
+    (m.1 (letters w) (scalars w c.requires) (spelling w c.requires), omega (arith, m.0.limit, short w c.requires))

@@ -27,8 +27,7 @@ returns-in-Malformed c =
 
 pub returns-in-Accepted : goal.returns-in-Accepted
 returns-in-Accepted c =
-    let f = c in
-    let w = f.args.word.now in
-    let e = sym f.in-Accepted.ensures in
-    let k = (f.kind_of-k.ensures (letters w) (scalars w e) (take-length w ∙ spelling w e)).0 in
+    let w = c.args.word.now in
+    let e = sym c.in-Accepted.ensures in
+    let k = (c.kind_of-k.ensures (letters w) (scalars w e) (take-length w ∙ spelling w e)).0 in
     (λ i. record { code = 0; kind = k i }) ∙ kind-after w Accepted e

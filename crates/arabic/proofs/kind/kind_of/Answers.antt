@@ -11,31 +11,24 @@ use Rattle.arabic.proofs.kind.kind_of.Goals as goal
 pub returns-then-class-eq0 : goal.returns-then-class-eq0
 unfolding A_3 encode encode1
 returns-then-class-eq0 c =
-    let f = c in
-    let a = f.args in
+    let a = c.args in
     λ w sc e.
-    no_row w 0 f.find_among-f.result (f.find_among-f.ensures.ahead A_3 refl refl w sc (from_start a.text.now a.limit ∙ e)) c.if-class-eq0.true
+    no_row w 0 c.find_among-f.result (c.find_among-f.ensures.ahead A_3 refl refl w sc (from_start a.text.now a.limit ∙ e)) c.if-class-eq0.true
 
 pub returns-then-has_chars : goal.returns-then-has_chars
 unfolding A_3 encode encode1
 returns-then-has_chars c =
-    let h = c in
-    let l = h in
-    let f = l in
-    let a = f.args in
+    let a = c.args in
     λ w sc e.
-    long_enough_lem w 0 f.find_among-f.result (f.find_among-f.ensures.ahead A_3 refl refl w sc (from_start a.text.now a.limit ∙ e)) l.if-class-eq0.false
-    (length w) l.least_letters-least.result refl l.least_letters-least.ensures
-    (leb-true l.least_letters-least.result (length w) (sym (h.has_chars.ensures.by_index w e) ∙ c.if-has_chars.true))
+    long_enough_lem w 0 c.find_among-f.result (c.find_among-f.ensures.ahead A_3 refl refl w sc (from_start a.text.now a.limit ∙ e)) c.if-class-eq0.false
+    (length w) c.least_letters-least.result refl c.least_letters-least.ensures
+    (leb-true c.least_letters-least.result (length w) (sym (c.has_chars.ensures.by_index w e) ∙ c.if-has_chars.true))
 
 pub returns : goal.returns
 unfolding A_3 encode encode1
 returns c =
-    let h = c in
-    let l = h in
-    let f = l in
-    let a = f.args in
+    let a = c.args in
     λ w sc e.
-    too_short w 0 f.find_among-f.result (f.find_among-f.ensures.ahead A_3 refl refl w sc (from_start a.text.now a.limit ∙ e)) l.if-class-eq0.false
-    (length w) l.least_letters-least.result refl l.least_letters-least.ensures
-    (leb-false l.least_letters-least.result (length w) (sym (h.has_chars.ensures.by_index w e) ∙ c.if-has_chars.false))
+    too_short w 0 c.find_among-f.result (c.find_among-f.ensures.ahead A_3 refl refl w sc (from_start a.text.now a.limit ∙ e)) c.if-class-eq0.false
+    (length w) c.least_letters-least.result refl c.least_letters-least.ensures
+    (leb-false c.least_letters-least.result (length w) (sym (c.has_chars.ensures.by_index w e) ∙ c.if-has_chars.false))

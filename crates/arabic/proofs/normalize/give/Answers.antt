@@ -12,9 +12,8 @@ positive (suc k) h = omega arith
 
 pub put_letter-requires : goal.put_letter-requires
 put_letter-requires c =
-    let s = c in
-    let a = s.args in
-    let p = s.requires in
+    let a = c.args in
+    let p = c.requires in
     let e = give_kept a.c a.class c.if-class-eq0.true in
     (omega (arith, ap length e, p.class_bound_2.1), p.class_bound.1)
 

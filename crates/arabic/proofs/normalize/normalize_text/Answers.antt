@@ -8,7 +8,6 @@ use Rattle.arabic.proofs.Normalising.{start, letter, plain-room, plain_turn, mov
 use Rattle.arabic.proofs.normalize.normalize_text.Goals as goal
 
 -- what the search asks for: the keys, and a letter that is not plain
-
 pub loop-cursor-init : goal.loop-cursor-init
 loop-cursor-init c =
     let a = c.args in

@@ -8,26 +8,22 @@ use Rattle.arabic.proofs.normalize.row_of.Goals as goal
 pub loop-lo-preserved-then-rows-mid : goal.loop-lo-preserved-then-rows-mid
 loop-lo-preserved-then-rows-mid c =
     let l = c.loop-lo in
-    let s = c in
-    upper s.args.c l.lo l.hi l.invariant (l.lo + (l.hi - l.lo) / 2) (omega arith) (rw (sym s.requires.rows_value) c.if-rows-mid.true)
+    upper c.args.c l.lo l.hi l.invariant (l.lo + (l.hi - l.lo) / 2) (omega arith) (rw (sym c.requires.rows_value) c.if-rows-mid.true)
 
 pub loop-lo-preserved : goal.loop-lo-preserved
 loop-lo-preserved c =
     let l = c.loop-lo in
-    let s = c in
-    lower s.args.c l.lo l.hi l.invariant (l.lo + (l.hi - l.lo) / 2) (omega arith) (omega arith) (rw (sym s.requires.rows_value) c.if-rows-mid.false)
+    lower c.args.c l.lo l.hi l.invariant (l.lo + (l.hi - l.lo) / 2) (omega arith) (omega arith) (rw (sym c.requires.rows_value) c.if-rows-mid.false)
 
 pub returns-then-rows-lo : goal.returns-then-rows-lo
 returns-then-rows-lo c =
     let l = c.loop-lo in
-    let s = c in
-    found s.args.c l.lo l.hi l.invariant (omega arith) (rw (sym s.requires.rows_value) c.if-rows-lo.true)
+    found c.args.c l.lo l.hi l.invariant (omega arith) (rw (sym c.requires.rows_value) c.if-rows-lo.true)
 
 pub returns-else-rows-lo : goal.returns-else-rows-lo
 returns-else-rows-lo c =
     let l = c.loop-lo in
-    let s = c in
-    missed s.args.c l.lo l.hi l.invariant (omega arith) (λ h. rw (sym s.requires.rows_value) c.if-rows-lo.false)
+    missed c.args.c l.lo l.hi l.invariant (omega arith) (λ h. rw (sym c.requires.rows_value) c.if-rows-lo.false)
 
 pub returns-else-lo-lt161 : goal.returns-else-lo-lt161
 returns-else-lo-lt161 c =

@@ -14,7 +14,6 @@ use Rattle.arabic.proofs.Nest.{or_yes, or_no, last-nothing}
 use Rattle.arabic.proofs.noun_nest.first_cut.Goals as goal
 
 -- the alternatives behind the third, the second and the first
-
 abbrev rest3 : List (Step Cutting)
 rest3 = cut noun_step2b ∷ nothing ∷ []
 

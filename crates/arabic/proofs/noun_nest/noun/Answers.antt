@@ -8,7 +8,6 @@ use Rattle.arabic.proofs.noun_nest.noun.Goals as goal
 
 pub returns : goal.returns
 returns c =
-    let f = c in
     let r = c.r_Suffix_Noun_Step3-s in
-    λ v st. subst (Gives r.result.tried) (noun_is (kind_of f.args.b_is_defined) v)
-    (then_yes f.first_cut-t.result r.result.tried (cut noun_step3) f.first_cut-t.ensures.0 _ (f.first_cut-t.ensures.1 v st) (λ u e s. (r.ensures u s).0))
+    λ v st. subst (Gives r.result.tried) (noun_is (kind_of c.args.b_is_defined) v)
+    (then_yes c.first_cut-t.result r.result.tried (cut noun_step3) c.first_cut-t.ensures.0 _ (c.first_cut-t.ensures.1 v st) (λ u e s. (r.ensures u s).0))

@@ -11,31 +11,24 @@ use Rattle.arabic.proofs.prefix_halves.front_row.Goals as goal
 
 pub returns-then-class-eq0 : goal.returns-then-class-eq0
 returns-then-class-eq0 c =
-    let f = c in
-    let a = f.args in
+    let a = c.args in
     λ s q p g t rest sc e b.
-    no_row s t rest a.cursor f.find_among-f.result (f.find_among-f.ensures.ahead (prefix s).table q p rest sc b) c.if-class-eq0.true
+    no_row s t rest a.cursor c.find_among-f.result (c.find_among-f.ensures.ahead (prefix s).table q p rest sc b) c.if-class-eq0.true
 
 pub returns-then-has_chars : goal.returns-then-has_chars
 returns-then-has_chars c =
-    let h = c in
-    let g = h in
-    let f = g in
-    let a = f.args in
+    let a = c.args in
     λ s q p k t rest sc e b.
-    long_enough_lem s t rest a.cursor f.find_among-f.result (f.find_among-f.ensures.ahead (prefix s).table q p rest sc b) g.if-class-eq0.false
-    (length t) g.least_letters-least.result refl
-    (g.least_letters-least.ensures ∙ ap (λ (x : List ℕ). least_letters x f.find_among-f.result.class) k)
-    (leb-true g.least_letters-least.result (length t) (sym (h.has_chars.ensures.by_index t e) ∙ c.if-has_chars.true))
+    long_enough_lem s t rest a.cursor c.find_among-f.result (c.find_among-f.ensures.ahead (prefix s).table q p rest sc b) c.if-class-eq0.false
+    (length t) c.least_letters-least.result refl
+    (c.least_letters-least.ensures ∙ ap (λ (x : List ℕ). least_letters x c.find_among-f.result.class) k)
+    (leb-true c.least_letters-least.result (length t) (sym (c.has_chars.ensures.by_index t e) ∙ c.if-has_chars.true))
 
 pub returns : goal.returns
 returns c =
-    let h = c in
-    let g = h in
-    let f = g in
-    let a = f.args in
+    let a = c.args in
     λ s q p k t rest sc e b.
-    too_short s t rest a.cursor f.find_among-f.result (f.find_among-f.ensures.ahead (prefix s).table q p rest sc b) g.if-class-eq0.false
-    (length t) g.least_letters-least.result refl
-    (g.least_letters-least.ensures ∙ ap (λ (x : List ℕ). least_letters x f.find_among-f.result.class) k)
-    (leb-false g.least_letters-least.result (length t) (sym (h.has_chars.ensures.by_index t e) ∙ c.if-has_chars.false))
+    too_short s t rest a.cursor c.find_among-f.result (c.find_among-f.ensures.ahead (prefix s).table q p rest sc b) c.if-class-eq0.false
+    (length t) c.least_letters-least.result refl
+    (c.least_letters-least.ensures ∙ ap (λ (x : List ℕ). least_letters x c.find_among-f.result.class) k)
+    (leb-false c.least_letters-least.result (length t) (sym (c.has_chars.ensures.by_index t e) ∙ c.if-has_chars.false))

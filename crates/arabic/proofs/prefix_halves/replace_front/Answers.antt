@@ -18,47 +18,30 @@ returns-then-class-eq0 c =
 
 pub bounds-lens-k : goal.bounds-lens-k
 bounds-lens-k c =
-    let v = c in
-    let d = v in
-    let s = d in
-    let p = s.requires in
-    in_lens p.0 p.1.0 s.args.env p.1.1.0 s.args.f p.1.1.1.0 d.if-class-eq0.false s.args.news.now s.args.lens.now p.1.1.1.1 v.wide-k.result v.wide-k.ensures
+    let p = c.requires in
+    in_lens p.0 p.1.0 c.args.env p.1.1.0 c.args.f p.1.1.1.0 c.if-class-eq0.false c.args.news.now c.args.lens.now p.1.1.1.1 c.wide-k.result c.wide-k.ensures
 
 pub bounds-news-k : goal.bounds-news-k
 bounds-news-k c =
-    let v = c in
-    let d = v in
-    let s = d in
-    let p = s.requires in
-    in_news p.0 p.1.0 s.args.env p.1.1.0 s.args.f p.1.1.1.0 d.if-class-eq0.false s.args.news.now s.args.lens.now p.1.1.1.1 v.wide-k.result v.wide-k.ensures
+    let p = c.requires in
+    in_news p.0 p.1.0 c.args.env p.1.1.0 c.args.f p.1.1.1.0 c.if-class-eq0.false c.args.news.now c.args.lens.now p.1.1.1.1 c.wide-k.result c.wide-k.ensures
 
 pub slice_bounds-slice_from-end : goal.slice_bounds-slice_from-end
 slice_bounds-slice_from-end c =
-    let v2 = c in
-    let v = v2 in
-    let d = v in
-    let s = d in
-    let p = s.requires in
-    in_new p.0 p.1.0 s.args.env p.1.1.0 s.args.f p.1.1.1.0 d.if-class-eq0.false s.args.news.now s.args.lens.now p.1.1.1.1 v.wide-k.result v.wide-k.ensures v2.wide-n.result v2.wide-n.ensures
+    let p = c.requires in
+    in_new p.0 p.1.0 c.args.env p.1.1.0 c.args.f p.1.1.1.0 c.if-class-eq0.false c.args.news.now c.args.lens.now p.1.1.1.1 c.wide-k.result c.wide-k.ensures c.wide-n.result c.wide-n.ensures
 
 pub slice_from-d-requires : goal.slice_from-d-requires
 slice_from-d-requires c =
-    let v2 = c in
-    let v = v2 in
-    let d = v in
-    let s = d in
-    let p = s.requires in
-    let h = can_slice p.0 p.1.0 s.args.env p.1.1.0 s.args.f p.1.1.1.0 d.if-class-eq0.false s.args.news.now s.args.lens.now p.1.1.1.1 v.wide-k.result v.wide-k.ensures v2.wide-n.result v2.wide-n.ensures in
-    (h.0, h.1.0, h.1.1.0, subst (λ (n : ℕ). s.args.env.limit - (s.args.f.cursor - s.args.env.cursor) + length (take n (get_or s.args.news.now v.wide-k.result [])) ≤ work_size) (none-less v2.wide-n.result) h.1.1.1)
+    let p = c.requires in
+    let h = can_slice p.0 p.1.0 c.args.env p.1.1.0 c.args.f p.1.1.1.0 c.if-class-eq0.false c.args.news.now c.args.lens.now p.1.1.1.1 c.wide-k.result c.wide-k.ensures c.wide-n.result c.wide-n.ensures in
+    (h.0, h.1.0, h.1.1.0, subst (λ (n : ℕ). c.args.env.limit - (c.args.f.cursor - c.args.env.cursor) + length (take n (get_or c.args.news.now c.wide-k.result [])) ≤ work_size) (none-less c.wide-n.result) h.1.1.1)
 
 pub returns : goal.returns
 returns c =
-    let v2 = c in
-    let v = v2 in
-    let d = v in
-    let a = d.args in
+    let a = c.args in
     λ s w st tk ps nb ch.
-    let g = is_replaced s w a.env st a.f tk d.if-class-eq0.false a.news.now a.lens.now ps v.wide-k.result v.wide-k.ensures v2.wide-n.result v2.wide-n.ensures nb ch
+    let g = is_replaced s w a.env st a.f tk c.if-class-eq0.false a.news.now a.lens.now ps c.wide-k.result c.wide-k.ensures c.wide-n.result c.wide-n.ensures nb ch
     c.slice_from-d.result
-    (λ cs sc e. c.slice_from-d.ensures.1 cs sc (ap (λ (n : ℕ). take n (get_or a.news.now v.wide-k.result [])) (sym (none-less v2.wide-n.result)) ∙ e)) in
+    (λ cs sc e. c.slice_from-d.ensures.1 cs sc (ap (λ (n : ℕ). take n (get_or a.news.now c.wide-k.result [])) (sym (none-less c.wide-n.result)) ∙ e)) in
     (g, row_is s w a.env st a.f tk nb)

@@ -13,7 +13,6 @@ use Rattle.arabic.proofs.Nest.{or_yes, or_no, not_open, prefix_steps_is}
 use Rattle.arabic.proofs.prefix_nest.prefixes.Goals as goal
 
 -- the definition's tries: the first alternative, and the first two
-
 abbrev first : Word → Try Fronting
 first w = apply prefix_step3a_noun (after (apply prefix_step2 (after (apply prefix_step1 (started w)))))
 

@@ -19,28 +19,24 @@ returns-then-stands_at c =
 
 pub front_row-f-requires-clause-spelt : goal.front_row-f-requires-clause-spelt
 front_row-f-requires-clause-spelt c =
-    let s = c in
-    let x = s.args.env in
-    let w = s.requires.0 in
-    let st = s.requires.1 in (spelt st, (front_fits x w st).0, (w.rest, (rest-scalars x w st, rest-bytes x w st)))
+    let x = c.args.env in
+    let w = c.requires.0 in
+    let st = c.requires.1 in (spelt st, (front_fits x w st).0, (w.rest, (rest-scalars x w st, rest-bytes x w st)))
 
 pub replace_front-requires : goal.replace_front-requires
 unfolding prefix replacements A_7 encode encode1
 replace_front-requires c =
-    let f = c in
-    let s = f in
-    let x = s.args.env in
-    let w = s.requires.0 in
-    let st = s.requires.1 in
-    (prefix_step3b_noun, (w, (st, (f.front_row-f.ensures prefix_step3b_noun refl refl refl (text w) w.rest (rest-scalars x w st) st.bytes (rest-bytes x w st), (refl, refl)))))
+    let x = c.args.env in
+    let w = c.requires.0 in
+    let st = c.requires.1 in
+    (prefix_step3b_noun, (w, (st, (c.front_row-f.ensures prefix_step3b_noun refl refl refl (text w) w.rest (rest-scalars x w st) st.bytes (rest-bytes x w st), (refl, refl)))))
 
 pub returns : goal.returns
 unfolding prefix replacements not_at change A_7 encode encode1
 returns c =
-    let f = c in
-    let x = f.args.env in
+    let x = c.args.env in
     λ w st.
     c.replace_front.ensures prefix_step3b_noun w st
-    (f.front_row-f.ensures prefix_step3b_noun refl refl refl (text w) w.rest (rest-scalars x w st) st.bytes (rest-bytes x w st)) (refl, refl)
-    (any_next w.rest (beh ∷ alef ∷ []) ([]) (sym (looks x w st _ beh (alef ∷ []) refl refl) ∙ sym f.stands_at.ensures ∙ f.if-stands_at.false))
+    (c.front_row-f.ensures prefix_step3b_noun refl refl refl (text w) w.rest (rest-scalars x w st) st.bytes (rest-bytes x w st)) (refl, refl)
+    (any_next w.rest (beh ∷ alef ∷ []) ([]) (sym (looks x w st _ beh (alef ∷ []) refl refl) ∙ sym c.stands_at.ensures ∙ c.if-stands_at.false))
     (passing_in_place w)

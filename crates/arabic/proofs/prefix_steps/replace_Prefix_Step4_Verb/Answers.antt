@@ -9,28 +9,24 @@ use Rattle.arabic.proofs.prefix_steps.replace_Prefix_Step4_Verb.Goals as goal
 
 pub front_row-f-requires-clause-spelt : goal.front_row-f-requires-clause-spelt
 front_row-f-requires-clause-spelt c =
-    let s = c in
-    let x = s.args.env in
-    let w = s.requires.0 in
-    let st = s.requires.1 in (spelt st, (front_fits x w st).0, (w.rest, (rest-scalars x w st, rest-bytes x w st)))
+    let x = c.args.env in
+    let w = c.requires.0 in
+    let st = c.requires.1 in (spelt st, (front_fits x w st).0, (w.rest, (rest-scalars x w st, rest-bytes x w st)))
 
 pub replace_front-requires : goal.replace_front-requires
 unfolding prefix replacements A_9 encode encode1
 replace_front-requires c =
-    let f = c in
-    let s = f in
-    let x = s.args.env in
-    let w = s.requires.0 in
-    let st = s.requires.1 in
-    (prefix_step4_verb, (w, (st, (f.front_row-f.ensures prefix_step4_verb refl refl refl (text w) w.rest (rest-scalars x w st) st.bytes (rest-bytes x w st), (refl, refl)))))
+    let x = c.args.env in
+    let w = c.requires.0 in
+    let st = c.requires.1 in
+    (prefix_step4_verb, (w, (st, (c.front_row-f.ensures prefix_step4_verb refl refl refl (text w) w.rest (rest-scalars x w st) st.bytes (rest-bytes x w st), (refl, refl)))))
 
 pub returns : goal.returns
 unfolding prefix replacements not_at change A_9 encode encode1
 returns c =
-    let f = c in
-    let x = f.args.env in
+    let x = c.args.env in
     λ w st.
     c.replace_front.ensures prefix_step4_verb w st
-    (f.front_row-f.ensures prefix_step4_verb refl refl refl (text w) w.rest (rest-scalars x w st) st.bytes (rest-bytes x w st)) (refl, refl)
+    (c.front_row-f.ensures prefix_step4_verb refl refl refl (text w) w.rest (rest-scalars x w st) st.bytes (rest-bytes x w st)) (refl, refl)
     refl
     (passing_in_place w)

@@ -12,6 +12,5 @@ prefixes-t-requires c = (c.requires.0, at_start c.args.env c.requires.0 c.requir
 pub returns : goal.returns
 unfolding fronts
 returns c =
-    let p = c in
-    let a = p.args in
-    λ w st. back_to a.env p.prefixes-t.result.env w (after (prefix_steps (kind_by_verb a.context.b_is_verb) (definition.started w))) st (p.prefixes-t.ensures w (at_start a.env w st)).env
+    let a = c.args in
+    λ w st. back_to a.env c.prefixes-t.result.env w (after (prefix_steps (kind_by_verb a.context.b_is_verb) (definition.started w))) st (c.prefixes-t.ensures w (at_start a.env w st)).env

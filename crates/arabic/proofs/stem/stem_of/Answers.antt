@@ -17,15 +17,12 @@ use Rattle.arabic.proofs.stem.stem_of.Goals as goal
 pub returns : goal.returns
 unfolding stem_of fronting cutting
 returns c =
-    let f = c in
-    let s = f in
-    let n = s in
-    let e = n.requires.2 in
-    let d = kind_of n.args.context.b_is_defined in
+    let e = c.requires.2 in
+    let d = kind_of c.args.context.b_is_defined in
     λ w st.
-    let cut = s.cut_endings-c.ensures (normalise w) (n.r_Normalize_pre-n.ensures w st) in (
+    let cut = c.cut_endings-c.ensures (normalise w) (c.r_Normalize_pre-n.ensures w st) in (
       subst (λ (x : Word). Stands c.finish_letters-f.result (started (finish (text (fronts d x))))) (sym (endings_leave_lem d (normalise w)))
           (subst (λ (k : Kind). Stands c.finish_letters-f.result (started (finish (text (fronts k (maqsura_if_failed (endings d (normalise w)) (after (endings d (normalise w))).text))))))
-          e (c.finish_letters-f.ensures _ (f.change_front-p.ensures _ cut.0))),
+          e (c.finish_letters-f.ensures _ (c.change_front-p.ensures _ cut.0))),
       cut.1,
     )

@@ -6,14 +6,12 @@ use Rattle.arabic.proofs.suffix_halves.cut_ending.Goals as goal
 -- there is an ending
 
 -- there is none
-
 pub returns-then-found : goal.returns-then-found
 returns-then-found c =
-    let b = c in
-    let a = b.args in
+    let a = c.args in
     λ s v st tk. (
       cuts s v a.env st a.f.place tk.place _ (λ u h. h) refl
-          (λ e. absurd (b.if-found.true e)) (λ n. refl),
+          (λ e. absurd (c.if-found.true e)) (λ n. refl),
       tk.row,
     )
 

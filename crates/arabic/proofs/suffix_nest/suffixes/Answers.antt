@@ -19,5 +19,4 @@ returns-then-found c = λ w st. maqsura-done c.or_noun-t.result _ (both _ (kind_
 
 pub returns : goal.returns
 returns c =
-    let m = c in
-    λ w st. maqsura-failed m.or_noun-t.result m.r_Suffix_All_alef_maqsura-m.result.env _ (both _ (kind_of c.args.b_is_defined) c.or_noun-t.result w c.requires.1 (c.or_noun-t.ensures _ (c.open_verb-a.ensures (uncut w) st))) m.if-found.false (λ v e. (m.r_Suffix_All_alef_maqsura-m.ensures v e).0)
+    λ w st. maqsura-failed c.or_noun-t.result c.r_Suffix_All_alef_maqsura-m.result.env _ (both _ (kind_of c.args.b_is_defined) c.or_noun-t.result w c.requires.1 (c.or_noun-t.ensures _ (c.open_verb-a.ensures (uncut w) st))) c.if-found.false (λ v e. (c.r_Suffix_All_alef_maqsura-m.ensures v e).0)

@@ -12,18 +12,15 @@ use Rattle.arabic.proofs.suffix_steps.r_Suffix_All_alef_maqsura.Goals as goal
 pub returns-then-f-eq0 : goal.returns-then-f-eq0
 unfolding A_21 encode encode1
 returns-then-f-eq0 c =
-    let f = c in
-    let x = f.args.env in
+    let x = c.args.env in
     λ w st.
-    let b = f.find_among_b-f.ensures.behind A_21 refl refl w st.scalars (from_start x.current x.limit ∙ st.bytes) in
-    (not_last x w st f.find_among_b-f.result b c.if-f-eq0.true, b.finds.row)
+    let b = c.find_among_b-f.ensures.behind A_21 refl refl w st.scalars (from_start x.current x.limit ∙ st.bytes) in
+    (not_last x w st c.find_among_b-f.result b c.if-f-eq0.true, b.finds.row)
 
 pub returns : goal.returns
 unfolding A_21 encode encode1
 returns c =
-    let e = c in
-    let f = e in
-    let x = f.args.env in
+    let x = c.args.env in
     λ w st.
-    let b = f.find_among_b-f.ensures.behind A_21 refl refl w st.scalars (from_start x.current x.limit ∙ st.bytes) in
-    (is_last x w st f.find_among_b-f.result b e.if-f-eq0.false c.slice_from-d.result (c.slice_from-d.ensures.1 (yeh ∷ []) (low-scalars (yeh ∷ []) refl) refl), b.finds.row)
+    let b = c.find_among_b-f.ensures.behind A_21 refl refl w st.scalars (from_start x.current x.limit ∙ st.bytes) in
+    (is_last x w st c.find_among_b-f.result b c.if-f-eq0.false c.slice_from-d.result (c.slice_from-d.ensures.1 (yeh ∷ []) (low-scalars (yeh ∷ []) refl) refl), b.finds.row)

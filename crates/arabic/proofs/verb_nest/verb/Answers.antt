@@ -57,12 +57,9 @@ returns-then-a c =
 
 pub returns-then-b : goal.returns-then-b
 returns-then-b c =
-    let b = c in
-    λ v st. subst (Gives b.r_Suffix_Verb_Step2b-b.result.tried) (verb_is v) (or_yes b.r_Suffix_Verb_Step2b-b.result.tried (cut verb_step2a) c.if-b.true _ (second c.args.env c.r_Suffix_Verb_Step1-a.result.tried c.r_Suffix_Verb_Step2b-b.result.tried c.if-a.false (λ v st. (c.r_Suffix_Verb_Step1-a.ensures v st).0) (λ v st. (c.r_Suffix_Verb_Step2b-b.ensures v st).0) v st))
+    λ v st. subst (Gives c.r_Suffix_Verb_Step2b-b.result.tried) (verb_is v) (or_yes c.r_Suffix_Verb_Step2b-b.result.tried (cut verb_step2a) c.if-b.true _ (second c.args.env c.r_Suffix_Verb_Step1-a.result.tried c.r_Suffix_Verb_Step2b-b.result.tried c.if-a.false (λ v st. (c.r_Suffix_Verb_Step1-a.ensures v st).0) (λ v st. (c.r_Suffix_Verb_Step2b-b.ensures v st).0) v st))
 
 pub returns : goal.returns
 returns c =
-    let a = c in
-    let b = a in
-    λ v st. subst (Gives a.r_Suffix_Verb_Step2a-c.result.tried) (verb_is v)
-    (or_no b.r_Suffix_Verb_Step2b-b.result.tried a.r_Suffix_Verb_Step2a-c.result.tried (cut verb_step2a) a.if-b.false (λ v st. (a.r_Suffix_Verb_Step2a-c.ensures v st).0) _ (second c.args.env c.r_Suffix_Verb_Step1-a.result.tried c.r_Suffix_Verb_Step2b-b.result.tried c.if-a.false (λ v st. (c.r_Suffix_Verb_Step1-a.ensures v st).0) (λ v st. (c.r_Suffix_Verb_Step2b-b.ensures v st).0) v st))
+    λ v st. subst (Gives c.r_Suffix_Verb_Step2a-c.result.tried) (verb_is v)
+    (or_no c.r_Suffix_Verb_Step2b-b.result.tried c.r_Suffix_Verb_Step2a-c.result.tried (cut verb_step2a) c.if-b.false (λ v st. (c.r_Suffix_Verb_Step2a-c.ensures v st).0) _ (second c.args.env c.r_Suffix_Verb_Step1-a.result.tried c.r_Suffix_Verb_Step2b-b.result.tried c.if-a.false (λ v st. (c.r_Suffix_Verb_Step1-a.ensures v st).0) (λ v st. (c.r_Suffix_Verb_Step2b-b.ensures v st).0) v st))

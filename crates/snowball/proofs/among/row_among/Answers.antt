@@ -15,10 +15,9 @@ bounds-lens-row c =
 
 pub returns-then-wide-common : goal.returns-then-wide-common
 returns-then-wide-common c =
-    let a = c in
     let p = c.halve-p in
-    λ cs e. row_ahead a.args.rows.now a.args.lens.now a.args.links.now p.result.row p.result.common p.result.row cs e
-    (between a.args.text.now a.args.cursor a.args.limit) a.requires.t p.ensures (hit (omega (arith, c.wide.ensures, c.if-wide-common.true)))
+    λ cs e. row_ahead c.args.rows.now c.args.lens.now c.args.links.now p.result.row p.result.common p.result.row cs e
+    (between c.args.text.now c.args.cursor c.args.limit) c.requires.t p.ensures (hit (omega (arith, c.wide.ensures, c.if-wide-common.true)))
 
 pub walk-requires : goal.walk-requires
 walk-requires c =
@@ -31,7 +30,6 @@ walk-requires c =
 
 pub returns : goal.returns
 returns c =
-    let a = c in
     let p = c.halve-p in
-    λ cs e. row_ahead a.args.rows.now a.args.lens.now a.args.links.now p.result.row p.result.common c.walk.result cs e
-    (between a.args.text.now a.args.cursor a.args.limit) a.requires.t p.ensures c.walk.ensures
+    λ cs e. row_ahead c.args.rows.now c.args.lens.now c.args.links.now p.result.row p.result.common c.walk.result cs e
+    (between c.args.text.now c.args.cursor c.args.limit) c.requires.t p.ensures c.walk.ensures

@@ -15,7 +15,6 @@ use Rattle.snowball.proofs.env.has_chars.Goals as goal
 use Rattle.snowball.proofs.env.has_chars.Goals.{else-is_start, then-is_start}
 
 -- the answer by bytes gives the answer by letters
-
 by-letters : (r : Bool) (least : ℕ) (bytes : List ℕ) → r ≡ leb least (leads bytes) → (cs : List ℕ) → bytes ≡ encode cs → r ≡ leb least (length cs)
 by-letters r least bytes h cs e = h ∙ ap (leb least) (ap leads e ∙ leads-encode cs)
 

@@ -16,6 +16,5 @@ last_start-requires c =
 
 pub returns : goal.returns
 returns c =
-    let a = c in
-    let x = a.args.self in
-    (record { bra = refl; ket = refl }, λ s st. previous_stands x s st a.requires.1 c.last_start.result c.last_start.ensures)
+    let x = c.args.self in
+    (record { bra = refl; ket = refl }, λ s st. previous_stands x s st c.requires.1 c.last_start.result c.last_start.ensures)

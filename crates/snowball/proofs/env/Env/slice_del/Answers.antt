@@ -10,20 +10,18 @@ use Rattle.snowball.proofs.env.Env.slice_del.Goals as goal
 
 pub returns-then-self-end : goal.returns-then-self-end
 returns-then-self-end c =
-    let a = c in
-    let x = a.args.self in
-    let i = cursor-within x a.requires.0.0 a.requires.0.1 in (
+    let x = c.args.self in
+    let i = cursor-within x c.requires.0.0 c.requires.0.1 in (
       record { bra = refl; ket = refl },
-      cut_tail x x.bra a.requires.1 (omega arith) a.requires.0.1.within (tail_moved x.bra x.limit (omega arith) x.cursor i (omega arith)),
+      cut_tail x x.bra c.requires.1 (omega arith) c.requires.0.1.within (tail_moved x.bra x.limit (omega arith) x.cursor i (omega arith)),
     )
 
 pub returns-else-self-end : goal.returns-else-self-end
 returns-else-self-end c =
-    let a = c in
-    let x = a.args.self in
-    let i = cursor-within x a.requires.0.0 a.requires.0.1 in (
+    let x = c.args.self in
+    let i = cursor-within x c.requires.0.0 c.requires.0.1 in (
       record { bra = refl; ket = refl },
-      cut_tail x x.cursor a.requires.1 (omega arith) a.requires.0.1.within (tail_stays x.bra x.limit (omega arith) x.cursor i (omega arith)),
+      cut_tail x x.cursor c.requires.1 (omega arith) c.requires.0.1.within (tail_stays x.bra x.limit (omega arith) x.cursor i (omega arith)),
     )
 
 pub returns : goal.returns

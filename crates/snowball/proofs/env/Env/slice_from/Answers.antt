@@ -12,8 +12,7 @@ replace_s-requires c =
 
 pub returns : goal.returns
 returns c =
-    let a = c in
     let r = c.replace_s in (
       record { bra = r.ensures.bra; ket = r.ensures.ket },
-      λ cs sc k. sliced a.args.self r.result a.args.s.now cs a.requires.1 r.ensures (omega (arith, r.ensures.limit, a.requires.3)) sc k,
+      λ cs sc k. sliced c.args.self r.result c.args.s.now cs c.requires.1 r.ensures (omega (arith, r.ensures.limit, c.requires.3)) sc k,
     )
