@@ -2,42 +2,44 @@
 use mathlib.Core.Path.{◌≡◌, refl, sym, ap, ◌∙◌}
 use mathlib.Core.Bool.{Bool, true, false, not}
 use mathlib.Core.List.{List, [], ◌∷◌, ◌++◌, append-nil}
-use Prim.Native.Nat.{ℕ, zero, suc, ◌+◌, ◌≤◌, ◌<◌}
+use Prim.Native.Nat.{ℕ, suc, ◌+◌, ◌≤◌, ◌<◌}
 use native.Mathlib.Omega.{arith}
 use lib.Dec.{eqb}
-use lib.ListN.{length, take, drop, get_or}
-use lib.Seq.{take-length, drop-length, drop-drop, drop-append-le, drop-append-add, get_or-drop}
+use lib.ListN.{length, drop, get_or}
+use lib.Seq.{take-length, drop-length, drop-drop, drop-append-add, get_or-drop}
 use borrow.Author.Tests.{eqb-true, eqb-false, ne_eqb}
-use Rattle.bytes.specs.Bytes.{slice, index_after, index_of}
+use Rattle.std.specs.List.{position_or_len}
+use Rattle.std.proofs.lemmas.List.Sums.{passes_at_first}
 use Rattle.definition.specs.Words.{Word, both}
 use Rattle.definition.specs.Floating.{floating, no_mark}
-use Rattle.definition.proofs.Match.{by}
+use Rattle.definition.proofs.Match.{by, by_le}
 use Rattle.utf8.specs.Utf8.{Scalars, encode1, encode}
 use Rattle.utf8.specs.Letters.{SomeLetter}
 use Rattle.utf8.specs.Spelt.{Encodes, Spelt}
 use Rattle.utf8.proofs.Text.{Conts, Shape, shape}
 use Rattle.utf8.proofs.Ahead as ahead
 use Rattle.utf8.proofs.Ahead.{Ahead, Next, cons_size}
-use Rattle.floating_marks.specs.Marked.{TellsMark}
+use Rattle.floating_marks.specs.Marked.{TellsMark, TellsFirst}
 use Rattle.floating_marks.proofs.Bytes.{first-other, three-bytes}
 
 -- ---- the place of a byte
 
+-- how many bytes stand before the first byte EF
+abbrev pub before_EF : List ℕ → ℕ
+before_EF xs = position_or_len (λ b. eqb b 0xEF) xs
+
 -- where it is found, it stands
-found : (b : ℕ) (xs : List ℕ) → index_of b xs < length xs → get_or xs (index_of b xs) 0 ≡ b
-unfolding index_of index_after
-found b [] h = absurd (omega arith)
-found b (x ∷ xs) h = by (eqb x b) (λ e. rw e (eqb-true x b e)) (λ e. rw e (found b xs (let g : index_after (eqb x b) (index_of b xs) ≡ suc (index_of b xs) = rw e refl in omega arith)))
+found : (xs : List ℕ) → before_EF xs < length xs → get_or xs (before_EF xs) 0 ≡ 0xEF
+found xs h = eqb-true (get_or xs (before_EF xs) 0) 0xEF (passes_at_first (λ b. eqb b 0xEF) xs 0 h)
 
 -- a first byte that is another is passed, and so are the bytes behind a letter's first
-other-first : (b x : ℕ) (xs : List ℕ) → (x ≡ b → ⊥) → index_of b (x ∷ xs) ≡ suc (index_of b xs)
-unfolding index_of index_after
-other-first b x xs n = rw (ne_eqb x b n) refl
+other-first : (x : ℕ) (xs : List ℕ) → (x ≡ 0xEF → ⊥) → before_EF (x ∷ xs) ≡ suc (before_EF xs)
+other-first x xs n = rw (ne_eqb x 0xEF n) (omega arith)
 
-behind-first : (ts xs : List ℕ) → Conts ts → index_of 0xEF (ts ++ xs) ≡ length ts + index_of 0xEF xs
-behind-first [] xs c = sym (let e : 0 + index_of 0xEF xs ≡ index_of 0xEF xs = omega arith in e)
+behind-first : (ts xs : List ℕ) → Conts ts → before_EF (ts ++ xs) ≡ length ts + before_EF xs
+behind-first [] xs c = sym (let e : 0 + before_EF xs ≡ before_EF xs = omega arith in e)
 behind-first (t ∷ ts) xs c =
-    let e = other-first 0xEF t (ts ++ xs) (λ q. omega arith) in
+    let e = other-first t (ts ++ xs) (λ q. omega arith) in
     let r = behind-first ts xs c.2 in
     omega (arith, e, r)
 
@@ -62,28 +64,27 @@ module _ (c : ℕ) (t : Word) (s : Scalars (c ∷ t)) where
   unfolding encode
   letter_bytes = ap (λ (x : List ℕ). x ++ encode t) sh.is
 
-  at_EF : sh.b ≡ 0xEF → Passed (c ∷ t) (index_of 0xEF (encode (c ∷ t)))
-  unfolding index_of index_after
+  at_EF : sh.b ≡ 0xEF → Passed (c ∷ t) (before_EF (encode (c ∷ t)))
   at_EF e =
-      let z : index_of 0xEF (encode (c ∷ t)) ≡ 0 = ap (index_of 0xEF) letter_bytes ∙ ap (λ (b : ℕ). index_of 0xEF (b ∷ (sh.t ++ encode t))) e in
+      let z : before_EF (encode (c ∷ t)) ≡ 0 = ap before_EF letter_bytes ∙ ap (λ (b : ℕ). before_EF (b ∷ (sh.t ++ encode t))) e in
       record { left = c ∷ t; scalars = s; bytes = rw z refl; size = omega (arith, z); same = refl }
 
-  past_letter : (sh.b ≡ 0xEF → ⊥) → Passed t (index_of 0xEF (encode t)) → Passed (c ∷ t) (index_of 0xEF (encode (c ∷ t)))
+  past_letter : (sh.b ≡ 0xEF → ⊥) → Passed t (before_EF (encode t)) → Passed (c ∷ t) (before_EF (encode (c ∷ t)))
   unfolding encode
   past_letter n p =
       let w : length (encode1 c) ≡ suc (length sh.t) = ap length sh.is in
-      let z : index_of 0xEF (encode (c ∷ t)) ≡ length (encode1 c) + index_of 0xEF (encode t) =
-      ap (index_of 0xEF) letter_bytes ∙ other-first 0xEF sh.b (sh.t ++ encode t) n ∙ ap suc (behind-first sh.t (encode t) sh.conts) ∙ omega (arith, w) in
+      let z : before_EF (encode (c ∷ t)) ≡ length (encode1 c) + before_EF (encode t) =
+      ap before_EF letter_bytes ∙ other-first sh.b (sh.t ++ encode t) n ∙ ap suc (behind-first sh.t (encode t) sh.conts) ∙ omega (arith, w) in
       record {
         left = p.left;
         scalars = p.scalars;
-        bytes = ap (λ (k : ℕ). drop k (encode (c ∷ t))) z ∙ drop-append-add (encode1 c) (encode t) (index_of 0xEF (encode t)) ∙ p.bytes;
+        bytes = ap (λ (k : ℕ). drop k (encode (c ∷ t))) z ∙ drop-append-add (encode1 c) (encode t) (before_EF (encode t)) ∙ p.bytes;
         size = omega (arith, z, p.size, cons_size c t);
         same = ap (λ (b : Bool). both (not b) (no_mark t)) (no_mark_lem c (encode t) (s.0, tt) (λ e. n (sym (ap (λ (x : List ℕ). get_or x 0 0) sh.is) ∙ e))) ∙ p.same;
       }
 
-passed : (rest : Word) → Scalars rest → Passed rest (index_of 0xEF (encode rest))
-unfolding encode index_of
+passed : (rest : Word) → Scalars rest → Passed rest (before_EF (encode rest))
+unfolding encode
 passed [] s = record { left = []; scalars = tt; bytes = refl; size = omega arith; same = refl }
 passed (c ∷ t) s = by (eqb (shape c).b 0xEF) (λ e. at_EF c t s (eqb-true (shape c).b 0xEF e)) (λ e. past_letter c t s (eqb-false (shape c).b 0xEF e) (passed t s.1))
 
@@ -104,19 +105,18 @@ rest-bytes : {text : List ℕ} {i : ℕ} (v : Reached text i) → drop i text �
 rest-bytes {text} v = v.to.bytes ∙ ap (λ (x : List ℕ). encode v.to.rest ++ x) (drop-length text) ∙ append-nil (encode v.to.rest)
 
 -- the search from i on ends at r
-module _ {text : List ℕ} {i : ℕ} (v : Reached text i) (r : ℕ) (e : r ≡ i + index_of 0xEF (slice i (length text) text)) where
-  place : r ≡ i + index_of 0xEF (encode v.to.rest)
-  unfolding slice
-  place = e ∙ ap (λ (x : List ℕ). i + index_of 0xEF (drop i x)) (take-length text) ∙ ap (λ (x : List ℕ). i + index_of 0xEF x) (rest-bytes v)
+module _ {text : List ℕ} {i : ℕ} (v : Reached text i) (r : ℕ) (e : r ≡ i + before_EF (drop i text)) where
+  place : r ≡ i + before_EF (encode v.to.rest)
+  place = e ∙ ap (λ (x : List ℕ). i + before_EF x) (rest-bytes v)
 
-  abbrev p : Passed v.to.rest (index_of 0xEF (encode v.to.rest))
+  abbrev p : Passed v.to.rest (before_EF (encode v.to.rest))
   p = passed v.to.rest v.to.scalars
 
-  from_i : drop r text ≡ drop (index_of 0xEF (encode v.to.rest)) (encode v.to.rest)
+  from_i : drop r text ≡ drop (before_EF (encode v.to.rest)) (encode v.to.rest)
   from_i =
       ap (λ (k : ℕ). drop k text) place
-      ∙ sym (drop-drop (index_of 0xEF (encode v.to.rest)) i text)
-      ∙ ap (drop (index_of 0xEF (encode v.to.rest))) (rest-bytes v)
+      ∙ sym (drop-drop (before_EF (encode v.to.rest)) i text)
+      ∙ ap (drop (before_EF (encode v.to.rest))) (rest-bytes v)
 
   pub searched : Inv text r
   searched = record {
@@ -133,15 +133,15 @@ module _ {text : List ℕ} {i : ℕ} (v : Reached text i) (r : ℕ) (e : r ≡ i
     };
     first = λ h.
         ap (λ (k : ℕ). get_or text k 0) place
-        ∙ sym (get_or-drop i text (index_of 0xEF (encode v.to.rest)) 0)
-        ∙ ap (λ (x : List ℕ). get_or x (index_of 0xEF (encode v.to.rest)) 0) (rest-bytes v)
-        ∙ found 0xEF (encode v.to.rest) (omega (arith, place, v.to.ends));
+        ∙ sym (get_or-drop i text (before_EF (encode v.to.rest)) 0)
+        ∙ ap (λ (x : List ℕ). get_or x (before_EF (encode v.to.rest)) 0) (rest-bytes v)
+        ∙ found (encode v.to.rest) (omega (arith, place, v.to.ends));
   }
 
 at_front : (text : List ℕ) → Spelt text (length text) → Reached text 0
 at_front text s = record { to = ahead.start text (length text) s.word s.within s.encodes; same = refl }
 
-pub start : (text : List ℕ) → Spelt text (length text) → (r : ℕ) → r ≡ 0 + index_of 0xEF (slice 0 (length text) text) → Inv text r
+pub start : (text : List ℕ) → Spelt text (length text) → (r : ℕ) → r ≡ 0 + before_EF (drop 0 text) → Inv text r
 start text s = searched (at_front text s)
 
 module _ {text : List ℕ} {i : ℕ} (v : Inv text i) where
@@ -175,8 +175,15 @@ module _ {text : List ℕ} {i : ℕ} (v : Inv text i) where
       pub there : b ≡ true → (cs : Word) → Encodes text cs → true ≡ not (no_mark cs)
       there e = of_word true (sym (ap not (by_letter ∙ ap (λ (x : Bool). both (not x) (no_mark next.t)) e)))
 
-      pub turn : b ≡ false → (r : ℕ) → r ≡ i + 3 + index_of 0xEF (slice (i + 3) (length text) text) → Inv text r
+      pub turn : b ≡ false → (r : ℕ) → r ≡ i + 3 + before_EF (drop (i + 3) text) → Inv text r
       turn e = searched (record {
         to = ahead.past v.reached.to next text (i + 3) (ap (λ (x : ℕ). i + x) (sym wide)) refl;
         same = by_letter ∙ ap (λ (x : Bool). both (not x) (no_mark next.t)) e;
       })
+
+-- a word with no byte EF has no mark
+pub no_first : (text : List ℕ) → Spelt text (length text) → TellsFirst text 0 (length text) false → (cs : Word) → Encodes text cs → false ≡ not (no_mark cs)
+no_first text s t =
+    let r : ℕ = 0 + before_EF (drop 0 text) in
+    let v : Inv text r = start text s r refl in
+    by_le (length text) r (none v) (λ h. absurd (t r (omega arith) h (v.first h)))

@@ -1,6 +1,5 @@
 -- The laws behind the floating marks.
 pub mod Bytes
 pub mod Finding
-pub mod Blocks
 pub mod Taking
 pub mod Sizes

@@ -1,7 +1,8 @@
 // Floating marks in bytes: whether one stands at a place, whether a word has one, and a copy of a word without them.
 #![tactic(auto)]
 
-ghost use Rattle.std.specs.Prelude.{◌≡◌, not, ◌+◌, ◌≤◌, length};
+ghost use Rattle.std.specs.Prelude.{◌≡◌, ◌==◌, not, ◌+◌, ◌≤◌, length, drop};
+ghost use Rattle.std.specs.List.{position_or_len};
 ghost use Rattle.definition.specs.Words.{Word};
 ghost use Rattle.definition.specs.Floating.{no_mark};
 ghost use Rattle.utf8.specs.Letters.{SomeLetter};
@@ -73,17 +74,33 @@ fn has_first(word: &[u8]) -> bool
     first_in_block(word, last)
 }
 
+// How many bytes stand before the first byte EF: all, where none is.
+fn before_first(bytes: &[u8]) -> usize
+    ensures value { result ≡ position_or_len (λ byte. byte == 0xEF) bytes.now }
+    ensures within { result ≤ length bytes.now }
+{
+    bytes.iter().take_while(|byte| **byte != 0xEF).count()
+}
+
+// The place of the first byte EF from a place on, or the word's length where there is none.
+fn next_first(word: &[u8], from: usize) -> usize
+    requires { from ≤ length word.now }
+    ensures { result ≡ from + position_or_len (λ byte. byte == 0xEF) (drop from word.now) }
+{
+    from + before_first(&word[from..])
+}
+
 // Whether the word has a floating mark: looks at the letters that begin with EF.
 fn search_mark(word: &[u8]) -> bool
     requires { Spelt word.now (length word.now) }
     ensures { (cs : Word) → Encodes word.now cs → result ≡ not (no_mark cs) }
 {
-    let mut cursor = bytes::scan::find(word, 0, word.len(), 0xEF);
+    let mut cursor = next_first(word, 0);
     while cursor < word.len() {
         if mark_at(word, cursor) {
             return true;
         }
-        cursor = bytes::scan::find(word, cursor + 3, word.len(), 0xEF);
+        cursor = next_first(word, cursor + 3);
     }
     false
 }

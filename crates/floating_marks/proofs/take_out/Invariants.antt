@@ -1,0 +1,11 @@
+-- `take_out` meets its contract: each turn passes a mark, or reads another letter and writes it. Assumes nothing.
+use Prim.Native.Nat.{◌-◌}
+use lib.ListN.{length}
+use Rattle.floating_marks.proofs.Taking.{Inv}
+use Rattle.floating_marks.proofs.take_out.Given as goal
+
+abbrev pub invariant-loop-cursor : goal.invariant-loop-cursor
+invariant-loop-cursor l = Inv l.word (length l.initial.out) l.cursor l.out l.end
+
+abbrev pub decreases-loop-cursor : goal.decreases-loop-cursor
+decreases-loop-cursor l = length l.word - l.cursor
