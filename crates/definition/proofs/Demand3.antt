@@ -19,6 +19,7 @@ use Rattle.definition.proofs.Fronting.{Fourth, fourth, head_in}
 use Rattle.definition.proofs.Lengths.{head_short, maqsura_if_length}
 use Rattle.definition.proofs.Whole.{kept, fronted, run_of, run_is, parts_of, letters_of, size_of, least_of, most_of}
 use Rattle.definition.proofs.Changed.{changed}
+use Rattle.definition.proofs.Depends.{stem_of_lem}
 use Rattle.definition.proofs.Plain.{normalise-plain, all_append, all_left, all_right, all_get_d, all_from, all_head, changed-plain}
 
 -- for a normalised word n of kind k
@@ -78,16 +79,16 @@ turned : (w : Word) → reverse (chain w) ≡ cuts w
 unfolding chain
 turned w = reverse-reverse (cuts w)
 
-pub demand3 : (w : Word) → Demand3 w (stem w)
-unfolding stem stem_of fronting chain back cuts applied front head_letter run
-demand3 w =
+demand3_of : (w : Word) → Demand3 w (stem_of (kind w) (normalise w))
+unfolding chain back cuts applied front head_letter run
+demand3_of w =
     let k : Kind = kind w in
     let n : Word = normalise w in
     record {
       parts = parts_of k n;
       fronts = (fronted k n).fronts;
       order = order_of k n;
-      gone = (fronted k n).gone;
+      gone = omega (arith, (fronted k n).gone);
       joins = ap joined (sym (turned w));
       cut = in_turn_lem n (cutting k n).cuts (kept k n).cut;
       size = size_of k n;
@@ -96,3 +97,6 @@ demand3 w =
       most = most_of k n;
       plain = plain_of k n (normalise-plain w);
     }
+
+pub demand3 : (w : Word) → Demand3 w (stem w)
+demand3 w = subst (Demand3 w) (sym (stem_of_lem w)) (demand3_of w)

@@ -1,5 +1,5 @@
 -- Items 3 to 5 read the normalised word and the kind alone. Assumes nothing.
-use mathlib.Core.Path.{◌≡◌, refl}
+use mathlib.Core.Path.{◌≡◌, refl, sym, ◌∙◌}
 use mathlib.Core.List.{reverse}
 use lib.ListN.{length, drop}
 use Rattle.definition.specs.Words.{Word}
@@ -14,9 +14,9 @@ unfolding stem stem_of fronting
 stem_of_lem w = refl
 
 pub same_way : (u w : Word) → normalise u ≡ normalise w → kind u ≡ kind w → SameWay u w
-unfolding stem stem_of fronting chain back applied front head_letter run cuts
+unfolding chain back applied front head_letter run cuts
 same_way u w p q = record {
-  stems = λ i. stem_of (q i) (p i);
+  stems = stem_of_lem u ∙ (λ i. stem_of (q i) (p i)) ∙ sym (stem_of_lem w);
   chains = λ i. reverse (cutting (q i) (p i)).cuts;
   backs = λ i. joined (cutting (q i) (p i)).cuts;
   steps = λ i. (fronting (q i) (p i)).applied;
