@@ -90,7 +90,7 @@ fn given_number(class: usize) -> u32
 // Writes what stands for the letter c, whose row has this class. The answer is the place behind it.
 fn give_listed(class: usize, c: u32, out: &mut [u8; WORK_SIZE], at: usize) -> usize
     requires class_bound { (class < 56) × (0 < class) }
-    requires class_bound_2 { (at + length (encode (given c class)) ≤ work_size) × (length out.old ≡ work_size) }
+    requires room { (at + length (encode (given c class)) ≤ work_size) × (length out.old ≡ work_size) }
     ensures { Wrote out.old at (encode (given c class)) out.new result }
 {
     let v = given_number(class);
@@ -107,7 +107,7 @@ fn give_listed(class: usize, c: u32, out: &mut [u8; WORK_SIZE], at: usize) -> us
 // Writes what stands for the letter c, whose row has this class; with class 0, for no row, c itself.
 fn give(class: usize, c: u32, out: &mut [u8; WORK_SIZE], at: usize) -> usize
     requires class_bound { (class < 56) × (c < 0x110000) }
-    requires class_bound_2 { (at + length (encode (given c class)) ≤ work_size) × (length out.old ≡ work_size) }
+    requires room { (at + length (encode (given c class)) ≤ work_size) × (length out.old ≡ work_size) }
     ensures { Wrote out.old at (encode (given c class)) out.new result }
 {
     if class == 0 {

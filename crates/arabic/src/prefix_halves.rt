@@ -34,7 +34,7 @@ pub fn front_row(
     guards: &[u8],
 ) -> FoundFront
     requires spelt { Spelt text.now limit × (cursor ≤ limit) × ((rest : Word) × Encodes (between text.now cursor limit) rest) }
-    requires t { T (well_formed (keys rows.now lens.now) lens.now links.now) × (length classes.now ≡ length rows.now) }
+    requires table { T (well_formed (keys rows.now lens.now) lens.now links.now) × (length classes.now ≡ length rows.now) }
     ensures { (s : PrefixStep) → rows_of rows.now lens.now classes.now ≡ byte_table (prefix s).table
         → plain (prefix s).table ≡ true → guards.now ≡ (prefix s).guards
         → (t rest : Word) → Scalars rest → take limit text.now ≡ encode t → between text.now cursor limit ≡ encode rest

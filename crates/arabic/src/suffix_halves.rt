@@ -30,7 +30,7 @@ pub fn ending(
     guards: &[u8],
 ) -> FoundEnding
     requires spelt { Spelt text.now limit }
-    requires t { T (well_formed (keys_back rows.now lens.now) lens.now links.now) × (length classes.now ≡ length rows.now) }
+    requires table { T (well_formed (keys_back rows.now lens.now) lens.now links.now) × (length classes.now ≡ length rows.now) }
     ensures place_le_limit { result.place ≤ limit }
     ensures takes_ending { (s : SuffixStep) → rows_of rows.now lens.now classes.now ≡ byte_table (suffix s).table
         → plain (suffix s).table ≡ true → guards.now ≡ (suffix s).guards

@@ -15,7 +15,7 @@ use Rattle.definition.specs.Tries.{Try, done, failed, Failed}
 use Rattle.definition.specs.Endings.{Cutting, suffix_all_alef_maqsura, maqsura_if_failed}
 use Rattle.definition.specs.Finish.{last, other, finish}
 use Rattle.definition.specs.Fronts.{Applied, prefix_step4_verb}
-use Rattle.definition.specs.Demand3.{is_applied, place, NoHamza, Change, last-hamza, other-alef, other-waw, other-yeh, last-yeh, fourth_alef, stays}
+use Rattle.definition.specs.Demand3.{is_applied, place, NoHamza, Change, last_hamza, other_alef, other_waw, other_yeh, last_yeh, fourth_alef, stays}
 use Rattle.definition.proofs.Match.{both_0, both_1, by}
 use Rattle.definition.proofs.Stays.{outside, none_of_five}
 use Rattle.definition.proofs.Finish.{other_last}
@@ -146,20 +146,20 @@ module _ (L T F : Type 0) (c d e : ℕ) where
   at_last : L → e ≡ last d → Near L T F c d → Change L T F c e
   unfolding last
   at_last l q (same m f p) = by (both (leb alef_madda d) (leb d yeh_hamza))
-      (λ t. last-hamza l (rw p at (leb-true alef_madda d (both_0 (leb alef_madda d) (leb d yeh_hamza) t))) (rw p at (leb-true d yeh_hamza (both_1 (leb alef_madda d) (leb d yeh_hamza) t)))
+      (λ t. last_hamza l (rw p at (leb-true alef_madda d (both_0 (leb alef_madda d) (leb d yeh_hamza) t))) (rw p at (leb-true d yeh_hamza (both_1 (leb alef_madda d) (leb d yeh_hamza) t)))
       (q ∙ ap (λ (b : Bool). pick b hamza d) t))
       (λ t. stays m f (subst NoHamza p (outside d t)) (q ∙ ap (λ (b : Bool). pick b hamza d) t ∙ p))
-  at_last l q (maqsura x z p r) = last-yeh x z p (q ∙ ap last r)
+  at_last l q (maqsura x z p r) = last_yeh x z p (q ∙ ap last r)
   at_last l q (verbal x p r) = fourth_alef x p (q ∙ ap last r)
 
   at_other : (L → ⊥) → e ≡ other d → Near L T F c d → Change L T F c e
   unfolding other
   at_other l q (same m f p) =
-      by (eqb d alef_madda) (λ t. other-alef l (inl (sym p ∙ eqb-true d alef_madda t)) (q ∙ rw t))
-      (λ t2. by (eqb d alef_hamza_above) (λ t. other-alef l (inr (inl (sym p ∙ eqb-true d alef_hamza_above t))) (q ∙ rw (t2, t)))
-      (λ t3. by (eqb d waw_hamza) (λ t. other-waw l (sym p ∙ eqb-true d waw_hamza t) (q ∙ rw (t2, t3, t)))
-      (λ t4. by (eqb d alef_hamza_below) (λ t. other-alef l (inr (inr (sym p ∙ eqb-true d alef_hamza_below t))) (q ∙ rw (t2, t3, t4, t)))
-      (λ t5. by (eqb d yeh_hamza) (λ t. other-yeh l (sym p ∙ eqb-true d yeh_hamza t) (q ∙ rw (t2, t3, t4, t5, t)))
+      by (eqb d alef_madda) (λ t. other_alef l (inl (sym p ∙ eqb-true d alef_madda t)) (q ∙ rw t))
+      (λ t2. by (eqb d alef_hamza_above) (λ t. other_alef l (inr (inl (sym p ∙ eqb-true d alef_hamza_above t))) (q ∙ rw (t2, t)))
+      (λ t3. by (eqb d waw_hamza) (λ t. other_waw l (sym p ∙ eqb-true d waw_hamza t) (q ∙ rw (t2, t3, t)))
+      (λ t4. by (eqb d alef_hamza_below) (λ t. other_alef l (inr (inr (sym p ∙ eqb-true d alef_hamza_below t))) (q ∙ rw (t2, t3, t4, t)))
+      (λ t5. by (eqb d yeh_hamza) (λ t. other_yeh l (sym p ∙ eqb-true d yeh_hamza t) (q ∙ rw (t2, t3, t4, t5, t)))
       (λ t6. stays m f
       (subst NoHamza p (none_of_five d (eqb-false d alef_madda t2) (eqb-false d alef_hamza_above t3) (eqb-false d waw_hamza t4) (eqb-false d alef_hamza_below t5) (eqb-false d yeh_hamza t6)))
       (q ∙ rw (t2, t3, t4, t5, t6) p))))))

@@ -9,7 +9,6 @@ use lib.Dec.{eqb, ltb}
 use borrow.Author.Tests.{eqb-true, eq-eqb, ltb-true, ltb-false, not-true}
 use Rattle.definition.specs.Words.{Word, pick, both, every}
 use Rattle.definition.specs.Tables.{Row, Table, A_0}
-use Rattle.definition.specs.Search.{row_at}
 use Rattle.definition.specs.Normal.{gives, listed_for, given, normal, normalise}
 use Rattle.definition.specs.Demand3.{NoKey}
 use Rattle.definition.specs.Facts.{in_range}

@@ -14,7 +14,7 @@ use Rattle.definition.specs.Search.{row_at, least_letters, taken}
 use Rattle.definition.specs.Tries.{in_turn, first_of, attempt}
 use Rattle.definition.specs.Kind.{Kind, if_open}
 use Rattle.definition.specs.Fronts.{PrefixStep, prefix_step1, prefix_step2, prefix_step3a_noun, prefix_step3b_noun, prefix_step3_verb, prefix_step4_verb, prefix, not_at, Applied, at, front_row, replacement, unreplaced, Fronting, text, passing, change, begins_with_any, apply_by, apply_unless, apply, prefix_step3_verb_in_turn, prefix_step3_choices, prefix_steps, started, fronts}
-use Rattle.definition.specs.Demand3.{to_front, front_of, AtMostOne, unused, once, HeadOf, no_head, one_head, Third, third_a, third_b, third-verb, InOrder, is_applied, place}
+use Rattle.definition.specs.Demand3.{to_front, front_of, AtMostOne, unused, once, HeadOf, no_head, one_head, Third, third_a, third_b, third_verb, InOrder, is_applied, place}
 use Rattle.definition.proofs.Match.{empty, begins_split}
 use Rattle.definition.proofs.Found.{Taken, taken_some}
 use Rattle.definition.proofs.Triples.{Ends, Does, ends-after, does_then, does_or, does_last, does_attempt, does_if}
@@ -191,7 +191,7 @@ module _ (s : Word) where
       third = v.third;
       step1 = v.step1;
       step2 = v.step2;
-      step3 = third-verb v.step3 unused;
+      step3 = third_verb v.step3 unused;
       all = v.all;
     };
     four = λ e. absurd (false≢true (sym v.way.no4 ∙ e));
@@ -350,7 +350,7 @@ module _ (s : Word) where
           third = m ∷ v.third;
           step1 = head_on f.front (unreplaced m) f.head_letter v.step1;
           step2 = v.step2;
-          step3 = third-verb v.step3 (once r tk.inside);
+          step3 = third_verb v.step3 (once r tk.inside);
           all = ap (λ (x : List Applied). m ∷ x) v.all;
         };
         four = λ e. record { letter = subst Verbal (sym there) fs.letter; early = omega arith };

@@ -33,11 +33,11 @@ prefix-both prefix_step4_verb = (refl, refl)
 pub every_class_listed : EveryClassListed
 unfolding kind gives A_0 A_3
 every_class_listed = record {
-  kind_by_lem = λ w. refl;
-  kind-guards = refl;
-  normal-gives = refl;
-  normal-deletes = refl;
-  suffix-guards = suffix_guarded;
-  prefix-guards = λ s. (prefix-both s).0;
-  prefix-replacements = λ s. (prefix-both s).1;
+  kind_by_classes = λ w. refl;
+  kind_guards = refl;
+  normal_gives = refl;
+  normal_deletes = refl;
+  suffix_guards = suffix_guarded;
+  prefix_guards = λ s. (prefix-both s).0;
+  prefix_replacements = λ s. (prefix-both s).1;
 }

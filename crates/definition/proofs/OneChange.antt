@@ -8,7 +8,7 @@ use borrow.Author.Tests.{eqb-true, le-leb, lt-leb}
 use Rattle.definition.specs.Letters.{hamza, alef_madda, alef_hamza_above, waw_hamza, alef_hamza_below, yeh_hamza, alef, teh, noon, alef_maksura, yeh}
 use Rattle.definition.specs.Words.{pick, both}
 use Rattle.definition.specs.Finish.{other}
-use Rattle.definition.specs.Demand3.{Change, last-hamza, other-alef, other-waw, other-yeh, last-yeh, fourth_alef, stays}
+use Rattle.definition.specs.Demand3.{Change, last_hamza, other_alef, other_waw, other_yeh, last_yeh, fourth_alef, stays}
 use Rattle.definition.proofs.Match.{both_0, both_1, by}
 
 abbrev holds : {A : Type 0} → Dec A → Bool
@@ -67,13 +67,13 @@ module _ (L T F : Type 0) (l : Dec L) (t : Dec T) (f : Dec F) (c d : ℕ) where
 
   the_letter : Change L T F c d → d ≡ value (holds l) (holds t) (holds f) c
   unfolding other
-  the_letter (last-hamza x a b p) = p ∙ rw (le-leb alef_madda c a, le-leb c yeh_hamza b, is_true l x) refl
-  the_letter (other-alef n (inl q) p) = not_last n alef_madda alef q p refl
-  the_letter (other-alef n (inr (inl q)) p) = not_last n alef_hamza_above alef q p refl
-  the_letter (other-alef n (inr (inr q)) p) = not_last n alef_hamza_below alef q p refl
-  the_letter (other-waw n q p) = not_last n waw_hamza _ q p refl
-  the_letter (other-yeh n q p) = not_last n yeh_hamza yeh q p refl
-  the_letter (last-yeh x z q p) = at alef_maksura yeh q p (rw (is_true l x, is_true t z) refl)
+  the_letter (last_hamza x a b p) = p ∙ rw (le-leb alef_madda c a, le-leb c yeh_hamza b, is_true l x) refl
+  the_letter (other_alef n (inl q) p) = not_last n alef_madda alef q p refl
+  the_letter (other_alef n (inr (inl q)) p) = not_last n alef_hamza_above alef q p refl
+  the_letter (other_alef n (inr (inr q)) p) = not_last n alef_hamza_below alef q p refl
+  the_letter (other_waw n q p) = not_last n waw_hamza _ q p refl
+  the_letter (other_yeh n q p) = not_last n yeh_hamza yeh q p refl
+  the_letter (last_yeh x z q p) = at alef_maksura yeh q p (rw (is_true l x, is_true t z) refl)
   the_letter (fourth_alef x (inl q) p) = at_fourth x teh q p refl refl
   the_letter (fourth_alef x (inr (inl q)) p) = at_fourth x noon q p refl refl
   the_letter (fourth_alef x (inr (inr q)) p) = at_fourth x yeh q p refl refl

@@ -14,7 +14,7 @@ use Rattle.definition.specs.Tables.{Row, A_0, A_4}
 use Rattle.definition.specs.Search.{row_at, longest}
 use Rattle.definition.specs.Normal.{gives, listed_for, given, normal, normalise}
 use Rattle.definition.specs.Fronts.{Applied}
-use Rattle.definition.specs.Demand3.{HeadOf, no_head, one_head, Change, last-hamza, other-alef, other-waw, other-yeh, last-yeh, fourth_alef, stays, NoKey, NoHamza, Plain, AllOf}
+use Rattle.definition.specs.Demand3.{HeadOf, no_head, one_head, Change, last_hamza, other_alef, other_waw, other_yeh, last_yeh, fourth_alef, stays, NoKey, NoHamza, Plain, AllOf}
 use Rattle.definition.proofs.Match.{both_0, both_1, same_refl}
 use Rattle.definition.proofs.Found.{Found, all_at, longest-found, longest-longest, row-behind, no_letters}
 
@@ -121,10 +121,10 @@ plain : (d e : ℕ) → d ≡ e → NoKey e → NoHamza e → Plain d
 plain d e q n o = subst Plain (sym q) (record { no_key = n; no_hamza = o })
 
 pub changed-plain : (L T F : Type 0) (c d : ℕ) → Change L T F c d → NoKey c → Plain d
-changed-plain L T F c d (last-hamza l a b e) n = plain d hamza e put_in.0 (inl (omega arith))
-changed-plain L T F c d (other-alef l a e) n = plain d alef e put_in.1.0 (inr (omega arith))
-changed-plain L T F c d (other-waw l a e) n = plain d waw e put_in.1.1.0 (inr (omega arith))
-changed-plain L T F c d (other-yeh l a e) n = plain d yeh e put_in.1.1.1.0 (inr (omega arith))
-changed-plain L T F c d (last-yeh l z a e) n = plain d yeh e put_in.1.1.1.0 (inr (omega arith))
+changed-plain L T F c d (last_hamza l a b e) n = plain d hamza e put_in.0 (inl (omega arith))
+changed-plain L T F c d (other_alef l a e) n = plain d alef e put_in.1.0 (inr (omega arith))
+changed-plain L T F c d (other_waw l a e) n = plain d waw e put_in.1.1.0 (inr (omega arith))
+changed-plain L T F c d (other_yeh l a e) n = plain d yeh e put_in.1.1.1.0 (inr (omega arith))
+changed-plain L T F c d (last_yeh l z a e) n = plain d yeh e put_in.1.1.1.0 (inr (omega arith))
 changed-plain L T F c d (fourth_alef f a e) n = plain d alef e put_in.1.0 (inr (omega arith))
 changed-plain L T F c d (stays m f o e) n = plain d c e n o

@@ -60,7 +60,7 @@ pub data HeadOf (n front head_letter : Word) : List Applied → Type 0 where
 pub data Third : List Applied → Type 0 where
   third_a : {ms : List Applied} → AtMostOne prefix_step3a_noun ms → Third ms
   third_b : {ms : List Applied} → AtMostOne prefix_step3b_noun ms → Third ms
-  third-verb : {ms ms' : List Applied} → AtMostOne prefix_step3_verb ms → AtMostOne prefix_step4_verb ms' → Third (ms' ++ ms)
+  third_verb : {ms ms' : List Applied} → AtMostOne prefix_step3_verb ms → AtMostOne prefix_step4_verb ms' → Third (ms' ++ ms)
 
 -- the changes in item 4's order, the last one foremost
 pub record InOrder (n front head_letter : Word) (ms : List Applied) : Type 0 where
@@ -95,12 +95,12 @@ place ms = pick (is_applied prefix_step3_verb ms) 1 0
 -- last: it is the last letter. failed: item 3 ended with Step3 failing. fourth: it stands at Step4_Verb's place, and Step4_Verb was applied.
 pub data Change (last failed fourth : Type 0) (c d : ℕ) : Type 0 where
   -- item 5
-  last-hamza : last → alef_madda ≤ c → c ≤ yeh_hamza → d ≡ hamza → Change last failed fourth c d
-  other-alef : (last → ⊥) → (c ≡ alef_madda) ⊎ ((c ≡ alef_hamza_above) ⊎ (c ≡ alef_hamza_below)) → d ≡ alef → Change last failed fourth c d
-  other-waw : (last → ⊥) → c ≡ waw_hamza → d ≡ waw → Change last failed fourth c d
-  other-yeh : (last → ⊥) → c ≡ yeh_hamza → d ≡ yeh → Change last failed fourth c d
+  last_hamza : last → alef_madda ≤ c → c ≤ yeh_hamza → d ≡ hamza → Change last failed fourth c d
+  other_alef : (last → ⊥) → (c ≡ alef_madda) ⊎ ((c ≡ alef_hamza_above) ⊎ (c ≡ alef_hamza_below)) → d ≡ alef → Change last failed fourth c d
+  other_waw : (last → ⊥) → c ≡ waw_hamza → d ≡ waw → Change last failed fourth c d
+  other_yeh : (last → ⊥) → c ≡ yeh_hamza → d ≡ yeh → Change last failed fourth c d
   -- the last 0649 of item 3
-  last-yeh : last → failed → c ≡ alef_maksura → d ≡ yeh → Change last failed fourth c d
+  last_yeh : last → failed → c ≡ alef_maksura → d ≡ yeh → Change last failed fourth c d
   -- Step4_Verb
   fourth_alef : fourth → (c ≡ teh) ⊎ ((c ≡ noon) ⊎ (c ≡ yeh)) → d ≡ alef → Change last failed fourth c d
   -- no listed change touches it

@@ -38,12 +38,12 @@ abbrev pub checks1 : Rule
 checks1 = rule A_3 (5 ∷ 4 ∷ [])
 
 pub record EveryClassListed : Type 0 where
-  pub kind_by_lem : (w : Word) → kind w ≡ kind_by (taken (begins_with w) checks1 (length w))
-  pub kind-guards : has_guards checks1 ≡ true
+  pub kind_by_classes : (w : Word) → kind w ≡ kind_by (taken (begins_with w) checks1 (length w))
+  pub kind_guards : has_guards checks1 ≡ true
   -- a class of A_0 is one of the deleted, or what it gives is listed
-  pub normal-gives : every (λ (r : Row). pick (is_one_of deletes r.class) true (has_class gives r.class)) A_0 ≡ true
+  pub normal_gives : every (λ (r : Row). pick (is_one_of deletes r.class) true (has_class gives r.class)) A_0 ≡ true
   -- and a deleted one is not listed
-  pub normal-deletes : every (λ (g : Row). pick (is_one_of deletes g.class) false true) gives ≡ true
-  pub suffix-guards : (s : SuffixStep) → has_guards (suffix s) ≡ true
-  pub prefix-guards : (s : PrefixStep) → has_guards (prefix s) ≡ true
-  pub prefix-replacements : (s : PrefixStep) → has_replacements s ≡ true
+  pub normal_deletes : every (λ (g : Row). pick (is_one_of deletes g.class) false true) gives ≡ true
+  pub suffix_guards : (s : SuffixStep) → has_guards (suffix s) ≡ true
+  pub prefix_guards : (s : PrefixStep) → has_guards (prefix s) ≡ true
+  pub prefix_replacements : (s : PrefixStep) → has_replacements s ≡ true

@@ -14,7 +14,7 @@ use Rattle.definition.specs.Search.{row_at}
 use Rattle.definition.specs.Normal.{normalise}
 use Rattle.definition.specs.Fronts.{Applied}
 use Rattle.definition.specs.Stem.{stem, front, head_letter, run, back}
-use Rattle.definition.specs.Demand3.{Change, last-hamza, other-alef, other-waw, other-yeh, last-yeh, fourth_alef, stays, HeadOf, no_head, one_head, Demand3}
+use Rattle.definition.specs.Demand3.{Change, last_hamza, other_alef, other_waw, other_yeh, last_yeh, fourth_alef, stays, HeadOf, no_head, one_head, Demand3}
 use Rattle.definition.proofs.Main.{main_demand3}
 use Rattle.utf8.specs.Utf8.{encode1, encode}
 use Rattle.utf8.proofs.Text.{encode-append}
@@ -47,14 +47,14 @@ both-two : (c d : ℕ) → (0x80 ≤ c) × (c < 0x800) → (0x80 ≤ d) × (d < 
 both-two c d h k = two d k.0 k.1 ∙ sym (two c h.0 h.1)
 
 change-size : {L F P : Type 0} {c d : ℕ} → Change L F P c d → length (encode1 d) ≡ length (encode1 c)
-change-size {c = c} {d = d} (last-hamza l h k e) = both-two c d (omega arith, omega arith) (omega arith, omega arith)
-change-size {c = c} {d = d} (other-alef l o e) =
+change-size {c = c} {d = d} (last_hamza l h k e) = both-two c d (omega arith, omega arith) (omega arith, omega arith)
+change-size {c = c} {d = d} (other_alef l o e) =
     both-two c d
     (⊎_elim (λ x. (omega arith, omega arith)) (λ p. ⊎_elim (λ x. (omega arith, omega arith)) (λ x. (omega arith, omega arith)) p) o)
     (omega arith, omega arith)
-change-size {c = c} {d = d} (other-waw l h e) = both-two c d (omega arith, omega arith) (omega arith, omega arith)
-change-size {c = c} {d = d} (other-yeh l h e) = both-two c d (omega arith, omega arith) (omega arith, omega arith)
-change-size {c = c} {d = d} (last-yeh l f h e) = both-two c d (omega arith, omega arith) (omega arith, omega arith)
+change-size {c = c} {d = d} (other_waw l h e) = both-two c d (omega arith, omega arith) (omega arith, omega arith)
+change-size {c = c} {d = d} (other_yeh l h e) = both-two c d (omega arith, omega arith) (omega arith, omega arith)
+change-size {c = c} {d = d} (last_yeh l f h e) = both-two c d (omega arith, omega arith) (omega arith, omega arith)
 change-size {c = c} {d = d} (fourth_alef f o e) =
     both-two c d
     (⊎_elim (λ x. (omega arith, omega arith)) (λ p. ⊎_elim (λ x. (omega arith, omega arith)) (λ x. (omega arith, omega arith)) p) o)

@@ -25,7 +25,7 @@ impl State {
     // Nothing is read yet.
     pub fn start() -> State
         ensures len_value { result.len ≡ 0 }
-        ensures by_index { (line : List ℕ) → reading result line ≡ start }
+        ensures reading_value { (line : List ℕ) → reading result line ≡ start }
     {
         State {
             opening: true,

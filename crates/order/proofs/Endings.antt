@@ -34,10 +34,10 @@ cuts_exchange : (s t : SuffixStep) → apart (suffix s).table (suffix t).table �
 cuts_exchange s t c fs = λ i v. exchange (cut s) (cut t) fs v (cut_clean s v) (cut_clean t v) (one_idle s t c v) i
 
 -- ---- the verb
-abbrev verb_turns_lem : (v : Cutting) → Step Cutting
-verb_turns_lem v = in_turn (verb_step1_in_turn (length v.text) (first_of after_verb_step1))
+abbrev verb_in_turn : (v : Cutting) → Step Cutting
+verb_in_turn v = in_turn (verb_step1_in_turn (length v.text) (first_of after_verb_step1))
 
-turns_clean : (v : Cutting) → Clean (verb_turns_lem v) v
+turns_clean : (v : Cutting) → Clean (verb_in_turn v) v
 turns_clean v =
     then_clean _ _ v (then_clean (cut verb_step1) _ v (cut_clean verb_step1 v) (again_succeeds (length v.text) (cut verb_step1)))
     (or_succeeds (cut verb_step2a) _ (or_succeeds (cut verb_step2c) _ last_succeeds))
@@ -48,8 +48,8 @@ unfolding endings_by verb_by noun_by ordered exchanged
 verbs_0 k n = λ i. first_of (all_ending_choices k (λ (v : Cutting). go v (one_idle verb_step1 verb_step2b apart_1_2b v) i) (noun_by unexchanged k)) (uncut n)
   where
     go : (v : Cutting) → Fails (cut verb_step1) v ⊎ Fails (cut verb_step2b) v → verb_by (pair verbs 0) v ≡ verb_by unexchanged v
-    go v (inl p) = exchange (verb_turns_lem v) (cut verb_step2b) _ v (turns_clean v) (cut_clean verb_step2b v) (inl (then_fails _ _ v (then_fails (cut verb_step1) _ v p)))
-    go v (inr p) = exchange (verb_turns_lem v) (cut verb_step2b) _ v (turns_clean v) (cut_clean verb_step2b v) (inr p)
+    go v (inl p) = exchange (verb_in_turn v) (cut verb_step2b) _ v (turns_clean v) (cut_clean verb_step2b v) (inl (then_fails _ _ v (then_fails (cut verb_step1) _ v p)))
+    go v (inr p) = exchange (verb_in_turn v) (cut verb_step2b) _ v (turns_clean v) (cut_clean verb_step2b v) (inr p)
 
 -- behind Step1: Step2a | Step2c
 pub verb_sequel_0 : (k : Kind) (n : Word) → endings_by (pair verb_sequel 0) k n ≡ endings_by unexchanged k n

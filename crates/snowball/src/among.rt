@@ -141,7 +141,7 @@ fn compare_b(
 // The halving of find_among: the last row that does not come after the text.
 fn halve(text: &[u8], cursor: usize, limit: usize, rows: &[[u8; 6]], lens: &[u8]) -> Place
     requires cursor_le_limit { (cursor ≤ limit) × (limit ≤ length text.now) }
-    requires t { T (ordered (keys rows.now lens.now) lens.now) }
+    requires ordered_rows { T (ordered (keys rows.now lens.now) lens.now) }
     ensures { Halved (keys rows.now lens.now) (between text.now cursor limit) result.row result.common }
 {
     let mut i: usize = 0;
@@ -189,7 +189,7 @@ fn halve_b(
     lens: &[u8],
 ) -> Place
     requires limit_backward_le_cursor { (limit_backward ≤ cursor) × (cursor ≤ length text.now) }
-    requires t { T (ordered (keys_back rows.now lens.now) lens.now) }
+    requires ordered_rows { T (ordered (keys_back rows.now lens.now) lens.now) }
     ensures { Halved (keys_back rows.now lens.now) (behind text.now cursor limit_backward) result.row result.common }
 {
     let mut i: usize = 0;
@@ -231,7 +231,7 @@ fn halve_b(
 // The walk over the back links from row i: the first row that is wholly in the text, or the number of rows where none is.
 fn walk(i: usize, common: usize, lens: &[u8], links: &[u8]) -> usize
     requires i_in_bounds { (i < length lens.now) × (length links.now ≡ length lens.now) }
-    requires by_index { (k : ℕ) → k < length lens.now → (get_or links.now k 0 ≡ no_link → ⊥) → get_or links.now k 0 < k }
+    requires links_fall { (k : ℕ) → k < length lens.now → (get_or links.now k 0 ≡ no_link → ⊥) → get_or links.now k 0 < k }
     ensures { Walked lens.now links.now common i result }
 {
     if wide(lens[i]) <= common {
@@ -255,7 +255,7 @@ fn row_among(
     links: &[u8],
 ) -> usize
     requires cursor_le_limit { (cursor ≤ limit) × (limit ≤ length text.now) }
-    requires t { T (well_formed (keys rows.now lens.now) lens.now links.now) }
+    requires table { T (well_formed (keys rows.now lens.now) lens.now links.now) }
     ensures { (cs : List ℕ) → length cs ≡ length rows.now
         → result ≡ longest (begins_with (between text.now cursor limit)) (rows_of rows.now lens.now cs) }
 {
@@ -278,7 +278,7 @@ fn row_among_b(
     links: &[u8],
 ) -> usize
     requires limit_backward_le_cursor { (limit_backward ≤ cursor) × (cursor ≤ length text.now) }
-    requires t { T (well_formed (keys_back rows.now lens.now) lens.now links.now) }
+    requires table { T (well_formed (keys_back rows.now lens.now) lens.now links.now) }
     ensures { (cs : List ℕ) → length cs ≡ length rows.now
         → result ≡ longest (ends_with (between text.now limit_backward cursor)) (rows_of rows.now lens.now cs) }
 {
@@ -302,8 +302,8 @@ pub fn find_among(
     classes: &[u8],
 ) -> Found
     requires cursor_le_limit { (cursor ≤ limit) × (limit ≤ length text.now) }
-    requires t { T (well_formed (keys rows.now lens.now) lens.now links.now) × (length classes.now ≡ length rows.now) }
-    ensures cursor_le_cursor { (cursor ≤ result.cursor) × (result.cursor ≤ limit)
+    requires table { T (well_formed (keys rows.now lens.now) lens.now links.now) × (length classes.now ≡ length rows.now) }
+    ensures by_bytes { (cursor ≤ result.cursor) × (result.cursor ≤ limit)
         × AheadBytes (rows_of rows.now lens.now classes.now) (between text.now cursor limit) cursor result }
     ensures ahead { (t : Table) → rows_of rows.now lens.now classes.now ≡ byte_table t → plain t ≡ true
         → (w : Word) → Scalars w → between text.now cursor limit ≡ encode w → Ahead t w cursor result }
@@ -334,8 +334,8 @@ pub fn find_among_b(
     classes: &[u8],
 ) -> Found
     requires limit_backward_le_cursor { (limit_backward ≤ cursor) × (cursor ≤ length text.now) }
-    requires t { T (well_formed (keys_back rows.now lens.now) lens.now links.now) × (length classes.now ≡ length rows.now) }
-    ensures limit_backward_le_cursor_2 { (limit_backward ≤ result.cursor) × (result.cursor ≤ cursor)
+    requires table { T (well_formed (keys_back rows.now lens.now) lens.now links.now) × (length classes.now ≡ length rows.now) }
+    ensures by_bytes { (limit_backward ≤ result.cursor) × (result.cursor ≤ cursor)
         × BehindBytes (rows_of rows.now lens.now classes.now) (between text.now limit_backward cursor) cursor result }
     ensures behind { (t : Table) → rows_of rows.now lens.now classes.now ≡ byte_table t → plain t ≡ true
         → (w : Word) → Scalars w → between text.now limit_backward cursor ≡ encode w → Behind t w cursor result }

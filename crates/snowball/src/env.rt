@@ -53,7 +53,7 @@ fn is_start(b: u8) -> bool
 // The Rust's chars().count(): how many letters the first limit bytes encode.
 pub fn count_chars(text: &[u8], limit: usize) -> usize
     requires { limit ≤ length text.now }
-    ensures by_index { (cs : List ℕ) → take limit text.now ≡ encode cs → result ≡ length cs }
+    ensures by_letters { (cs : List ℕ) → take limit text.now ≡ encode cs → result ≡ length cs }
     ensures value { result ≡ leads (take limit text.now) }
 {
     let mut n: usize = 0;
@@ -71,7 +71,7 @@ pub fn count_chars(text: &[u8], limit: usize) -> usize
 // letter that it needs.
 pub fn has_chars(text: &[u8], limit: usize, least: usize) -> bool
     requires { limit ≤ length text.now }
-    ensures by_index { (cs : List ℕ) → take limit text.now ≡ encode cs → result ≡ leb least (length cs) }
+    ensures by_letters { (cs : List ℕ) → take limit text.now ≡ encode cs → result ≡ leb least (length cs) }
     ensures value { result ≡ leb least (leads (take limit text.now)) }
 {
     let mut n: usize = 0;

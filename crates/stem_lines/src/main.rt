@@ -9,7 +9,7 @@ ghost use Rattle.std.specs.Prelude.{◌≡◌, ◌≤◌, IfOk, length};
 ghost use Rattle.lines.specs.Machine.{kept_bytes, line_room, reading, after};
 
 use patient::Patient;
-use std::io::{ErrorKind, Read, Write};
+use std::io::{Read, Write};
 use std::{fmt, io};
 
 // The most bytes that are read or written at once.
@@ -81,11 +81,11 @@ fn run<R: Read, W: Write>(input: &mut R, output: &mut W) -> Result<(), Failure> 
     for _ in 0..u64::MAX {
         let count = input.read(&mut buf).map_err(Failure::Input)?;
         if count == 0 {
-            return end(&line, state, &mut out, output);
+            break;
         }
         state = pump(&buf[..count], &mut line, state, &mut out, output)?;
     }
-    Err(Failure::Input(ErrorKind::TimedOut.into()))
+    end(&line, state, &mut out, output)
 }
 
 fn main(rt: HostRuntime) -> Result<(), Failure> {

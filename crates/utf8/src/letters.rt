@@ -97,21 +97,28 @@ fn trail(x: u32) -> u8
     (0x80 + x % 64) as u8
 }
 
+// The first letters that are written in two, three and four bytes.
+const TWO_BYTES_FROM: u32 = 0x80;
+
+const THREE_BYTES_FROM: u32 = 0x800;
+
+const FOUR_BYTES_FROM: u32 = 0x10000;
+
 // Writes the letter c into out from the byte at on. The answer is the place behind it.
 pub fn put_letter(out: &mut [u8], at: usize, c: u32) -> usize
     requires { (at + length (encode1 c) ≤ length out.old) × (c < 0x110000) }
     ensures { Wrote out.old at (encode1 c) out.new result }
 {
-    if c < 0x80 {
+    if c < TWO_BYTES_FROM {
         out[at] = lead(0, c);
         return at + 1;
     }
-    if c < 0x800 {
+    if c < THREE_BYTES_FROM {
         out[at] = lead(0xC0, c / 64);
         out[at + 1] = trail(c);
         return at + 2;
     }
-    if c < 0x10000 {
+    if c < FOUR_BYTES_FROM {
         out[at] = lead(0xE0, c / 4096);
         out[at + 1] = trail(c / 64);
         out[at + 2] = trail(c);

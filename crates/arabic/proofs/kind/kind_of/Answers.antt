@@ -22,7 +22,7 @@ returns-then-has_chars c =
     λ w sc e.
     long_enough_lem w 0 c.find_among-f.result (c.find_among-f.ensures.ahead A_3 refl refl w sc (from_start a.text.now a.limit ∙ e)) c.if-class-eq0.false
     (length w) c.least_letters-least.result refl c.least_letters-least.ensures
-    (leb-true c.least_letters-least.result (length w) (sym (c.has_chars.ensures.by_index w e) ∙ c.if-has_chars.true))
+    (leb-true c.least_letters-least.result (length w) (sym (c.has_chars.ensures.by_letters w e) ∙ c.if-has_chars.true))
 
 pub returns : goal.returns
 unfolding A_3 encode encode1
@@ -31,4 +31,4 @@ returns c =
     λ w sc e.
     too_short w 0 c.find_among-f.result (c.find_among-f.ensures.ahead A_3 refl refl w sc (from_start a.text.now a.limit ∙ e)) c.if-class-eq0.false
     (length w) c.least_letters-least.result refl c.least_letters-least.ensures
-    (leb-false c.least_letters-least.result (length w) (sym (c.has_chars.ensures.by_index w e) ∙ c.if-has_chars.false))
+    (leb-false c.least_letters-least.result (length w) (sym (c.has_chars.ensures.by_letters w e) ∙ c.if-has_chars.false))

@@ -15,7 +15,7 @@ put_letter-requires c =
     let a = c.args in
     let p = c.requires in
     let e = give_kept a.c a.class c.if-class-eq0.true in
-    (omega (arith, ap length e, p.class_bound_2.1), p.class_bound.1)
+    (omega (arith, ap length e, p.room.1), p.class_bound.1)
 
 pub returns-then-class-eq0 : goal.returns-then-class-eq0
 returns-then-class-eq0 c =

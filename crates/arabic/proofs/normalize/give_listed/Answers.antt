@@ -17,7 +17,7 @@ put_letter-requires c =
     let n = c.given_number-v in
     let a = c.args in
     let e = give_one a.c a.class n.result n.ensures c.requires.class_bound.0 (λ z. omega arith) c.if-v-eq0.false c.if-v-lt65536.true in
-    (omega (arith, ap length e, c.requires.class_bound_2.1), omega arith)
+    (omega (arith, ap length e, c.requires.room.1), omega arith)
 
 pub returns-then-v-lt65536 : goal.returns-then-v-lt65536
 returns-then-v-lt65536 c =
@@ -31,7 +31,7 @@ put_letter-k-requires c =
     let n = c.given_number-v in
     let a = c.args in
     let e = give_two a.c a.class n.result n.ensures c.requires.class_bound.0 (λ z. omega arith) c.if-v-lt65536.false in
-    (omega (arith, simp length-append at (ap length e), c.requires.class_bound_2.1), omega arith)
+    (omega (arith, simp length-append at (ap length e), c.requires.room.1), omega arith)
 
 pub put_letter-requires-2 : goal.put_letter-requires-2
 put_letter-requires-2 c =
@@ -39,7 +39,7 @@ put_letter-requires-2 c =
     let a = c.args in
     let e = give_two a.c a.class n.result n.ensures c.requires.class_bound.0 (λ z. omega arith) c.if-v-lt65536.false in
     let u = c.put_letter-k.ensures in (
-      omega (arith, simp length-append at (ap length e), u.size, c.requires.class_bound_2.1),
+      omega (arith, simp length-append at (ap length e), u.size, c.requires.room.1),
       omega (arith, give_small a.c a.class n.result n.ensures c.requires.class_bound.0 (λ z. omega arith)),
     )
 

@@ -59,8 +59,8 @@ give-end-requires-clause-class_bound c =
     let d = class_top v (omega arith) l.result l.ensures o.result k.result o.ensures k.ensures in
     let r = room v (omega arith) l.result l.ensures o.result k.result o.ensures k.ensures p.limit_le_longest_word.0 in (d, code_top v (omega arith) l.result l.ensures)
 
-pub give-end-requires-clause-class_bound_2 : goal.give-end-requires-clause-class_bound_2
-give-end-requires-clause-class_bound_2 c =
+pub give-end-requires-clause-room : goal.give-end-requires-clause-room
+give-end-requires-clause-room c =
     let k = c.class_of_row-class in
     let o = c.row_of-row in
     let l = c.read_letter-letter in

@@ -22,7 +22,7 @@ returns-then-has_chars c =
     long_enough_lem s t rest a.cursor c.find_among-f.result (c.find_among-f.ensures.ahead (prefix s).table q p rest sc b) c.if-class-eq0.false
     (length t) c.least_letters-least.result refl
     (c.least_letters-least.ensures ∙ ap (λ (x : List ℕ). least_letters x c.find_among-f.result.class) k)
-    (leb-true c.least_letters-least.result (length t) (sym (c.has_chars.ensures.by_index t e) ∙ c.if-has_chars.true))
+    (leb-true c.least_letters-least.result (length t) (sym (c.has_chars.ensures.by_letters t e) ∙ c.if-has_chars.true))
 
 pub returns : goal.returns
 returns c =
@@ -31,4 +31,4 @@ returns c =
     too_short s t rest a.cursor c.find_among-f.result (c.find_among-f.ensures.ahead (prefix s).table q p rest sc b) c.if-class-eq0.false
     (length t) c.least_letters-least.result refl
     (c.least_letters-least.ensures ∙ ap (λ (x : List ℕ). least_letters x c.find_among-f.result.class) k)
-    (leb-false c.least_letters-least.result (length t) (sym (c.has_chars.ensures.by_index t e) ∙ c.if-has_chars.false))
+    (leb-false c.least_letters-least.result (length t) (sym (c.has_chars.ensures.by_letters t e) ∙ c.if-has_chars.false))

@@ -22,7 +22,7 @@ returns-then-has_chars-clause-takes_ending c =
     let b = c.find_among_b-f.ensures.behind (suffix s).table q p w sc (from_start a.text.now a.limit ∙ e) in
     long_enough_lem s w a.limit c.find_among_b-f.result b c.if-class-eq0.false (length w) c.least_letters-least.result refl
     (c.least_letters-least.ensures ∙ ap (λ (x : List ℕ). least_letters x c.find_among_b-f.result.class) k)
-    (leb-true c.least_letters-least.result (length w) (sym (c.has_chars.ensures.by_index w e) ∙ c.if-has_chars.true))
+    (leb-true c.least_letters-least.result (length w) (sym (c.has_chars.ensures.by_letters w e) ∙ c.if-has_chars.true))
 
 pub returns-clause-takes_ending : goal.returns-clause-takes_ending
 returns-clause-takes_ending c =
@@ -30,4 +30,4 @@ returns-clause-takes_ending c =
     let b = c.find_among_b-f.ensures.behind (suffix s).table q p w sc (from_start a.text.now a.limit ∙ e) in
     too_short s w a.limit c.find_among_b-f.result b c.if-class-eq0.false (length w) c.least_letters-least.result refl
     (c.least_letters-least.ensures ∙ ap (λ (x : List ℕ). least_letters x c.find_among_b-f.result.class) k)
-    (leb-false c.least_letters-least.result (length w) (sym (c.has_chars.ensures.by_index w e) ∙ c.if-has_chars.false))
+    (leb-false c.least_letters-least.result (length w) (sym (c.has_chars.ensures.by_letters w e) ∙ c.if-has_chars.false))

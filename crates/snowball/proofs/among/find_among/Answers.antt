@@ -26,27 +26,27 @@ pub returns-then-row-lens : goal.returns-then-row-lens
 returns-then-row-lens c =
     let x = c.args in
     record {
-      cursor_le_cursor = (omega arith, omega (arith, c.requires.cursor_le_limit.0), let n = ahead_none_bytes x.rows.now x.lens.now x.links.now x.classes.now c.requires.t.1 (between x.text.now x.cursor x.limit) c.row_among-row.result c.requires.t.0 (c.row_among-row.ensures c.args.classes.now c.requires.t.1) c.if-row-lens.true in record { finds = finds (c.row_among-row.ensures c.args.classes.now c.requires.t.1) n.0; cursor = omega (arith, n.1) });
+      by_bytes = (omega arith, omega (arith, c.requires.cursor_le_limit.0), let n = ahead_none_bytes x.rows.now x.lens.now x.links.now x.classes.now c.requires.table.1 (between x.text.now x.cursor x.limit) c.row_among-row.result c.requires.table.0 (c.row_among-row.ensures c.args.classes.now c.requires.table.1) c.if-row-lens.true in record { finds = finds (c.row_among-row.ensures c.args.classes.now c.requires.table.1) n.0; cursor = omega (arith, n.1) });
       ahead = λ t q p w sc e.
-          let i = ahead_row x.rows.now x.lens.now x.links.now x.classes.now c.requires.t.1 (between x.text.now x.cursor x.limit) c.row_among-row.result c.requires.t.0 (c.row_among-row.ensures c.args.classes.now c.requires.t.1) t q p w sc e in
-          let n = ahead_none x.rows.now x.lens.now x.links.now x.classes.now c.requires.t.1 (between x.text.now x.cursor x.limit) c.row_among-row.result c.requires.t.0 (c.row_among-row.ensures c.args.classes.now c.requires.t.1) t q p w sc e c.if-row-lens.true in
+          let i = ahead_row x.rows.now x.lens.now x.links.now x.classes.now c.requires.table.1 (between x.text.now x.cursor x.limit) c.row_among-row.result c.requires.table.0 (c.row_among-row.ensures c.args.classes.now c.requires.table.1) t q p w sc e in
+          let n = ahead_none x.rows.now x.lens.now x.links.now x.classes.now c.requires.table.1 (between x.text.now x.cursor x.limit) c.row_among-row.result c.requires.table.0 (c.row_among-row.ensures c.args.classes.now c.requires.table.1) t q p w sc e c.if-row-lens.true in
           record { finds = finds i n.0; cursor = omega (arith, n.1) };
     }
 
 pub bounds-classes-row : goal.bounds-classes-row
-bounds-classes-row c = let x = c.args in omega (arith, inside x.text.now x.cursor x.limit x.rows.now x.lens.now x.links.now x.classes.now c.row_among-row.result c.requires.cursor_le_limit.0 c.requires.cursor_le_limit.1 c.requires.t.0 c.requires.t.1 (c.row_among-row.ensures c.args.classes.now c.requires.t.1) c.if-row-lens.false, c.requires.t.1)
+bounds-classes-row c = let x = c.args in omega (arith, inside x.text.now x.cursor x.limit x.rows.now x.lens.now x.links.now x.classes.now c.row_among-row.result c.requires.cursor_le_limit.0 c.requires.cursor_le_limit.1 c.requires.table.0 c.requires.table.1 (c.row_among-row.ensures c.args.classes.now c.requires.table.1) c.if-row-lens.false, c.requires.table.1)
 
 pub bounds-lens-row : goal.bounds-lens-row
-bounds-lens-row c = let x = c.args in omega (arith, inside x.text.now x.cursor x.limit x.rows.now x.lens.now x.links.now x.classes.now c.row_among-row.result c.requires.cursor_le_limit.0 c.requires.cursor_le_limit.1 c.requires.t.0 c.requires.t.1 (c.row_among-row.ensures c.args.classes.now c.requires.t.1) c.if-row-lens.false)
+bounds-lens-row c = let x = c.args in omega (arith, inside x.text.now x.cursor x.limit x.rows.now x.lens.now x.links.now x.classes.now c.row_among-row.result c.requires.cursor_le_limit.0 c.requires.cursor_le_limit.1 c.requires.table.0 c.requires.table.1 (c.row_among-row.ensures c.args.classes.now c.requires.table.1) c.if-row-lens.false)
 
 pub returns : goal.returns
 returns c =
     let x = c.args in
-    let i = inside x.text.now x.cursor x.limit x.rows.now x.lens.now x.links.now x.classes.now c.row_among-row.result c.requires.cursor_le_limit.0 c.requires.cursor_le_limit.1 c.requires.t.0 c.requires.t.1 (c.row_among-row.ensures c.args.classes.now c.requires.t.1) c.if-row-lens.false in
+    let i = inside x.text.now x.cursor x.limit x.rows.now x.lens.now x.links.now x.classes.now c.row_among-row.result c.requires.cursor_le_limit.0 c.requires.cursor_le_limit.1 c.requires.table.0 c.requires.table.1 (c.row_among-row.ensures c.args.classes.now c.requires.table.1) c.if-row-lens.false in
     record {
-      cursor_le_cursor = (omega arith, omega (arith, i.2, c.wide.ensures), let n = ahead_some_bytes x.rows.now x.lens.now x.links.now x.classes.now c.requires.t.1 (between x.text.now x.cursor x.limit) c.row_among-row.result c.requires.t.0 (c.row_among-row.ensures c.args.classes.now c.requires.t.1) c.if-row-lens.false in record { finds = finds (c.row_among-row.ensures c.args.classes.now c.requires.t.1) n.0; cursor = ap (λ (m : ℕ). x.cursor + m) (c.wide.ensures ∙ n.1) });
+      by_bytes = (omega arith, omega (arith, i.2, c.wide.ensures), let n = ahead_some_bytes x.rows.now x.lens.now x.links.now x.classes.now c.requires.table.1 (between x.text.now x.cursor x.limit) c.row_among-row.result c.requires.table.0 (c.row_among-row.ensures c.args.classes.now c.requires.table.1) c.if-row-lens.false in record { finds = finds (c.row_among-row.ensures c.args.classes.now c.requires.table.1) n.0; cursor = ap (λ (m : ℕ). x.cursor + m) (c.wide.ensures ∙ n.1) });
       ahead = λ t q p w sc z.
-          let j = ahead_row x.rows.now x.lens.now x.links.now x.classes.now c.requires.t.1 (between x.text.now x.cursor x.limit) c.row_among-row.result c.requires.t.0 (c.row_among-row.ensures c.args.classes.now c.requires.t.1) t q p w sc z in
-          let n = ahead_some x.rows.now x.lens.now x.links.now x.classes.now c.requires.t.1 (between x.text.now x.cursor x.limit) c.row_among-row.result c.requires.t.0 (c.row_among-row.ensures c.args.classes.now c.requires.t.1) t q p w sc z c.if-row-lens.false in
+          let j = ahead_row x.rows.now x.lens.now x.links.now x.classes.now c.requires.table.1 (between x.text.now x.cursor x.limit) c.row_among-row.result c.requires.table.0 (c.row_among-row.ensures c.args.classes.now c.requires.table.1) t q p w sc z in
+          let n = ahead_some x.rows.now x.lens.now x.links.now x.classes.now c.requires.table.1 (between x.text.now x.cursor x.limit) c.row_among-row.result c.requires.table.0 (c.row_among-row.ensures c.args.classes.now c.requires.table.1) t q p w sc z c.if-row-lens.false in
           record { finds = finds j n.0; cursor = ap (λ (m : ℕ). x.cursor + m) (c.wide.ensures ∙ n.1) };
     }

@@ -26,30 +26,30 @@ pub returns-then-row-lens : goal.returns-then-row-lens
 returns-then-row-lens c =
     let x = c.args in
     record {
-      limit_backward_le_cursor_2 = (omega (arith, c.requires.limit_backward_le_cursor.0), omega arith, let n = behind_none_bytes x.rows.now x.lens.now x.links.now x.classes.now c.requires.t.1 (between x.text.now x.limit_backward x.cursor) c.row_among_b-row.result c.requires.t.0 (c.row_among_b-row.ensures c.args.classes.now c.requires.t.1) c.if-row-lens.true in record { finds = finds (c.row_among_b-row.ensures c.args.classes.now c.requires.t.1) n.0; cursor = omega (arith, n.1) });
+      by_bytes = (omega (arith, c.requires.limit_backward_le_cursor.0), omega arith, let n = behind_none_bytes x.rows.now x.lens.now x.links.now x.classes.now c.requires.table.1 (between x.text.now x.limit_backward x.cursor) c.row_among_b-row.result c.requires.table.0 (c.row_among_b-row.ensures c.args.classes.now c.requires.table.1) c.if-row-lens.true in record { finds = finds (c.row_among_b-row.ensures c.args.classes.now c.requires.table.1) n.0; cursor = omega (arith, n.1) });
       behind = λ t q p w sc e.
-          let i = behind-row x.rows.now x.lens.now x.links.now x.classes.now c.requires.t.1 (between x.text.now x.limit_backward x.cursor) c.row_among_b-row.result c.requires.t.0 (c.row_among_b-row.ensures c.args.classes.now c.requires.t.1) t q p w sc e in
-          let n = behind_none x.rows.now x.lens.now x.links.now x.classes.now c.requires.t.1 (between x.text.now x.limit_backward x.cursor) c.row_among_b-row.result c.requires.t.0 (c.row_among_b-row.ensures c.args.classes.now c.requires.t.1) t q p w sc e c.if-row-lens.true in
+          let i = behind-row x.rows.now x.lens.now x.links.now x.classes.now c.requires.table.1 (between x.text.now x.limit_backward x.cursor) c.row_among_b-row.result c.requires.table.0 (c.row_among_b-row.ensures c.args.classes.now c.requires.table.1) t q p w sc e in
+          let n = behind_none x.rows.now x.lens.now x.links.now x.classes.now c.requires.table.1 (between x.text.now x.limit_backward x.cursor) c.row_among_b-row.result c.requires.table.0 (c.row_among_b-row.ensures c.args.classes.now c.requires.table.1) t q p w sc e c.if-row-lens.true in
           record { finds = finds i n.0; cursor = omega (arith, n.1) };
     }
 
 pub bounds-classes-row : goal.bounds-classes-row
-bounds-classes-row c = let x = c.args in omega (arith, inside x.text.now x.cursor x.limit_backward x.rows.now x.lens.now x.links.now x.classes.now c.row_among_b-row.result c.requires.limit_backward_le_cursor.0 c.requires.limit_backward_le_cursor.1 c.requires.t.0 c.requires.t.1 (c.row_among_b-row.ensures c.args.classes.now c.requires.t.1) c.if-row-lens.false, c.requires.t.1)
+bounds-classes-row c = let x = c.args in omega (arith, inside x.text.now x.cursor x.limit_backward x.rows.now x.lens.now x.links.now x.classes.now c.row_among_b-row.result c.requires.limit_backward_le_cursor.0 c.requires.limit_backward_le_cursor.1 c.requires.table.0 c.requires.table.1 (c.row_among_b-row.ensures c.args.classes.now c.requires.table.1) c.if-row-lens.false, c.requires.table.1)
 
 pub bounds-lens-row : goal.bounds-lens-row
-bounds-lens-row c = let x = c.args in omega (arith, inside x.text.now x.cursor x.limit_backward x.rows.now x.lens.now x.links.now x.classes.now c.row_among_b-row.result c.requires.limit_backward_le_cursor.0 c.requires.limit_backward_le_cursor.1 c.requires.t.0 c.requires.t.1 (c.row_among_b-row.ensures c.args.classes.now c.requires.t.1) c.if-row-lens.false)
+bounds-lens-row c = let x = c.args in omega (arith, inside x.text.now x.cursor x.limit_backward x.rows.now x.lens.now x.links.now x.classes.now c.row_among_b-row.result c.requires.limit_backward_le_cursor.0 c.requires.limit_backward_le_cursor.1 c.requires.table.0 c.requires.table.1 (c.row_among_b-row.ensures c.args.classes.now c.requires.table.1) c.if-row-lens.false)
 
 pub overflow_sub-result : goal.overflow_sub-result
-overflow_sub-result c = let x = c.args in omega (arith, inside x.text.now x.cursor x.limit_backward x.rows.now x.lens.now x.links.now x.classes.now c.row_among_b-row.result c.requires.limit_backward_le_cursor.0 c.requires.limit_backward_le_cursor.1 c.requires.t.0 c.requires.t.1 (c.row_among_b-row.ensures c.args.classes.now c.requires.t.1) c.if-row-lens.false, c.wide.ensures)
+overflow_sub-result c = let x = c.args in omega (arith, inside x.text.now x.cursor x.limit_backward x.rows.now x.lens.now x.links.now x.classes.now c.row_among_b-row.result c.requires.limit_backward_le_cursor.0 c.requires.limit_backward_le_cursor.1 c.requires.table.0 c.requires.table.1 (c.row_among_b-row.ensures c.args.classes.now c.requires.table.1) c.if-row-lens.false, c.wide.ensures)
 
 pub returns : goal.returns
 returns c =
     let x = c.args in
-    let i = inside x.text.now x.cursor x.limit_backward x.rows.now x.lens.now x.links.now x.classes.now c.row_among_b-row.result c.requires.limit_backward_le_cursor.0 c.requires.limit_backward_le_cursor.1 c.requires.t.0 c.requires.t.1 (c.row_among_b-row.ensures c.args.classes.now c.requires.t.1) c.if-row-lens.false in
+    let i = inside x.text.now x.cursor x.limit_backward x.rows.now x.lens.now x.links.now x.classes.now c.row_among_b-row.result c.requires.limit_backward_le_cursor.0 c.requires.limit_backward_le_cursor.1 c.requires.table.0 c.requires.table.1 (c.row_among_b-row.ensures c.args.classes.now c.requires.table.1) c.if-row-lens.false in
     record {
-      limit_backward_le_cursor_2 = (omega (arith, i.2, c.wide.ensures), omega arith, let n = behind_some_bytes x.rows.now x.lens.now x.links.now x.classes.now c.requires.t.1 (between x.text.now x.limit_backward x.cursor) c.row_among_b-row.result c.requires.t.0 (c.row_among_b-row.ensures c.args.classes.now c.requires.t.1) c.if-row-lens.false in record { finds = finds (c.row_among_b-row.ensures c.args.classes.now c.requires.t.1) n.0; cursor = ap (λ (m : ℕ). x.cursor - m) (c.wide.ensures ∙ n.1) });
+      by_bytes = (omega (arith, i.2, c.wide.ensures), omega arith, let n = behind_some_bytes x.rows.now x.lens.now x.links.now x.classes.now c.requires.table.1 (between x.text.now x.limit_backward x.cursor) c.row_among_b-row.result c.requires.table.0 (c.row_among_b-row.ensures c.args.classes.now c.requires.table.1) c.if-row-lens.false in record { finds = finds (c.row_among_b-row.ensures c.args.classes.now c.requires.table.1) n.0; cursor = ap (λ (m : ℕ). x.cursor - m) (c.wide.ensures ∙ n.1) });
       behind = λ t q p w sc z.
-          let j = behind-row x.rows.now x.lens.now x.links.now x.classes.now c.requires.t.1 (between x.text.now x.limit_backward x.cursor) c.row_among_b-row.result c.requires.t.0 (c.row_among_b-row.ensures c.args.classes.now c.requires.t.1) t q p w sc z in
-          let n = behind_some x.rows.now x.lens.now x.links.now x.classes.now c.requires.t.1 (between x.text.now x.limit_backward x.cursor) c.row_among_b-row.result c.requires.t.0 (c.row_among_b-row.ensures c.args.classes.now c.requires.t.1) t q p w sc z c.if-row-lens.false in
+          let j = behind-row x.rows.now x.lens.now x.links.now x.classes.now c.requires.table.1 (between x.text.now x.limit_backward x.cursor) c.row_among_b-row.result c.requires.table.0 (c.row_among_b-row.ensures c.args.classes.now c.requires.table.1) t q p w sc z in
+          let n = behind_some x.rows.now x.lens.now x.links.now x.classes.now c.requires.table.1 (between x.text.now x.limit_backward x.cursor) c.row_among_b-row.result c.requires.table.0 (c.row_among_b-row.ensures c.args.classes.now c.requires.table.1) t q p w sc z c.if-row-lens.false in
           record { finds = finds j n.0; cursor = ap (λ (m : ℕ). x.cursor - m) (c.wide.ensures ∙ n.1) };
     }

@@ -55,23 +55,23 @@ loop-j-init c =
     let a = c.args in
     let us = keys_back a.rows.now a.lens.now in
     let t = behind a.text.now a.cursor a.limit_backward in
-    subst (λ (n : ℕ). Half us t 0 n 0 0 false) (keys_back_length a.rows.now a.lens.now) (start us t (in_rows us a.lens.now c.requires.t).one)
+    subst (λ (n : ℕ). Half us t 0 n 0 0 false) (keys_back_length a.rows.now a.lens.now) (start us t (in_rows us a.lens.now c.requires.ordered_rows).one)
 
 pub bounds-lens-k : goal.bounds-lens-k
-bounds-lens-k c = k_in_lens c.args.rows.now c.args.lens.now (behind c.args.text.now c.args.cursor c.args.limit_backward) c.requires.t c.loop-j.invariant
+bounds-lens-k c = k_in_lens c.args.rows.now c.args.lens.now (behind c.args.text.now c.args.cursor c.args.limit_backward) c.requires.ordered_rows c.loop-j.invariant
 
 pub compare_b-r-requires : goal.compare_b-r-requires
 compare_b-r-requires c =
     let m = c.min-common in
     record {
       limit_backward_le_cursor = c.requires.limit_backward_le_cursor;
-      k_in_bounds = (k_in c.args.rows.now c.args.lens.now (behind c.args.text.now c.args.cursor c.args.limit_backward) c.requires.t c.loop-j.invariant, row_has c.args.rows.now c.args.lens.now (behind c.args.text.now c.args.cursor c.args.limit_backward) c.requires.t c.loop-j.invariant c.wide-len.result c.wide-len.ensures);
-      from_bound = shared c.args.rows.now c.args.lens.now (behind c.args.text.now c.args.cursor c.args.limit_backward) c.requires.t c.loop-j.invariant c.wide-len.result c.wide-len.ensures m.result m.ensures.0 m.ensures.1;
+      k_in_bounds = (k_in c.args.rows.now c.args.lens.now (behind c.args.text.now c.args.cursor c.args.limit_backward) c.requires.ordered_rows c.loop-j.invariant, row_has c.args.rows.now c.args.lens.now (behind c.args.text.now c.args.cursor c.args.limit_backward) c.requires.ordered_rows c.loop-j.invariant c.wide-len.result c.wide-len.ensures);
+      from_bound = shared c.args.rows.now c.args.lens.now (behind c.args.text.now c.args.cursor c.args.limit_backward) c.requires.ordered_rows c.loop-j.invariant c.wide-len.result c.wide-len.ensures m.result m.ensures.0 m.ensures.1;
     }
 
 pub overflow_sub-j : goal.overflow_sub-j
 overflow_sub-j c =
-    let cut = turned c.args.rows.now c.args.lens.now (behind c.args.text.now c.args.cursor c.args.limit_backward) c.requires.t c.loop-j.invariant c.wide-len.result c.wide-len.ensures c.compare_b-r.result.common c.compare_b-r.result.less c.compare_b-r.ensures.common_value c.compare_b-r.ensures.less_value
+    let cut = turned c.args.rows.now c.args.lens.now (behind c.args.text.now c.args.cursor c.args.limit_backward) c.requires.ordered_rows c.loop-j.invariant c.wide-len.result c.wide-len.ensures c.compare_b-r.result.common c.compare_b-r.result.less c.compare_b-r.ensures.common_value c.compare_b-r.ensures.less_value
     (elim c.if-r.branch [
       | then-r w ↦ inl (w.if-r.true, w.i-is, w.j-is, w.common_i-is, w.common_j-is)
       | else-r w ↦ inr (w.if-r.false, w.i-is, w.j-is, w.common_i-is, w.common_j-is)
@@ -80,7 +80,7 @@ overflow_sub-j c =
 
 pub loop-j-smaller-then-j-i-le1 : goal.loop-j-smaller-then-j-i-le1
 loop-j-smaller-then-j-i-le1 c =
-    let cut = turned c.args.rows.now c.args.lens.now (behind c.args.text.now c.args.cursor c.args.limit_backward) c.requires.t c.loop-j.invariant c.wide-len.result c.wide-len.ensures c.compare_b-r.result.common c.compare_b-r.result.less c.compare_b-r.ensures.common_value c.compare_b-r.ensures.less_value
+    let cut = turned c.args.rows.now c.args.lens.now (behind c.args.text.now c.args.cursor c.args.limit_backward) c.requires.ordered_rows c.loop-j.invariant c.wide-len.result c.wide-len.ensures c.compare_b-r.result.common c.compare_b-r.result.less c.compare_b-r.ensures.common_value c.compare_b-r.ensures.less_value
     (elim c.if-r.branch [
       | then-r w ↦ inl (w.if-r.true, w.i-is, w.j-is, w.common_i-is, w.common_j-is)
       | else-r w ↦ inr (w.if-r.false, w.i-is, w.j-is, w.common_i-is, w.common_j-is)
@@ -89,7 +89,7 @@ loop-j-smaller-then-j-i-le1 c =
 
 pub loop-j-preserved-then-j-i-le1 : goal.loop-j-preserved-then-j-i-le1
 loop-j-preserved-then-j-i-le1 c =
-    let cut = turned c.args.rows.now c.args.lens.now (behind c.args.text.now c.args.cursor c.args.limit_backward) c.requires.t c.loop-j.invariant c.wide-len.result c.wide-len.ensures c.compare_b-r.result.common c.compare_b-r.result.less c.compare_b-r.ensures.common_value c.compare_b-r.ensures.less_value
+    let cut = turned c.args.rows.now c.args.lens.now (behind c.args.text.now c.args.cursor c.args.limit_backward) c.requires.ordered_rows c.loop-j.invariant c.wide-len.result c.wide-len.ensures c.compare_b-r.result.common c.compare_b-r.result.less c.compare_b-r.ensures.common_value c.compare_b-r.ensures.less_value
     (elim c.if-r.branch [
       | then-r w ↦ inl (w.if-r.true, w.i-is, w.j-is, w.common_i-is, w.common_j-is)
       | else-r w ↦ inr (w.if-r.false, w.i-is, w.j-is, w.common_i-is, w.common_j-is)
@@ -98,7 +98,7 @@ loop-j-preserved-then-j-i-le1 c =
 
 pub loop-j-smaller : goal.loop-j-smaller
 loop-j-smaller c =
-    let cut = turned c.args.rows.now c.args.lens.now (behind c.args.text.now c.args.cursor c.args.limit_backward) c.requires.t c.loop-j.invariant c.wide-len.result c.wide-len.ensures c.compare_b-r.result.common c.compare_b-r.result.less c.compare_b-r.ensures.common_value c.compare_b-r.ensures.less_value
+    let cut = turned c.args.rows.now c.args.lens.now (behind c.args.text.now c.args.cursor c.args.limit_backward) c.requires.ordered_rows c.loop-j.invariant c.wide-len.result c.wide-len.ensures c.compare_b-r.result.common c.compare_b-r.result.less c.compare_b-r.ensures.common_value c.compare_b-r.ensures.less_value
     (elim c.if-r.branch [
       | then-r w ↦ inl (w.if-r.true, w.i-is, w.j-is, w.common_i-is, w.common_j-is)
       | else-r w ↦ inr (w.if-r.false, w.i-is, w.j-is, w.common_i-is, w.common_j-is)
@@ -107,7 +107,7 @@ loop-j-smaller c =
 
 pub loop-j-preserved : goal.loop-j-preserved
 loop-j-preserved c =
-    let cut = turned c.args.rows.now c.args.lens.now (behind c.args.text.now c.args.cursor c.args.limit_backward) c.requires.t c.loop-j.invariant c.wide-len.result c.wide-len.ensures c.compare_b-r.result.common c.compare_b-r.result.less c.compare_b-r.ensures.common_value c.compare_b-r.ensures.less_value
+    let cut = turned c.args.rows.now c.args.lens.now (behind c.args.text.now c.args.cursor c.args.limit_backward) c.requires.ordered_rows c.loop-j.invariant c.wide-len.result c.wide-len.ensures c.compare_b-r.result.common c.compare_b-r.result.less c.compare_b-r.ensures.common_value c.compare_b-r.ensures.less_value
     (elim c.if-r.branch [
       | then-r w ↦ inl (w.if-r.true, w.i-is, w.j-is, w.common_i-is, w.common_j-is)
       | else-r w ↦ inr (w.if-r.false, w.i-is, w.j-is, w.common_i-is, w.common_j-is)
@@ -116,7 +116,7 @@ loop-j-preserved c =
 
 pub returns-then-i-gt0 : goal.returns-then-i-gt0
 returns-then-i-gt0 c =
-    let cut = turned c.args.rows.now c.args.lens.now (behind c.args.text.now c.args.cursor c.args.limit_backward) c.requires.t c.loop-j.invariant c.wide-len.result c.wide-len.ensures c.compare_b-r.result.common c.compare_b-r.result.less c.compare_b-r.ensures.common_value c.compare_b-r.ensures.less_value
+    let cut = turned c.args.rows.now c.args.lens.now (behind c.args.text.now c.args.cursor c.args.limit_backward) c.requires.ordered_rows c.loop-j.invariant c.wide-len.result c.wide-len.ensures c.compare_b-r.result.common c.compare_b-r.result.less c.compare_b-r.ensures.common_value c.compare_b-r.ensures.less_value
     (elim c.if-r.branch [
       | then-r w ↦ inl (w.if-r.true, w.i-is, w.j-is, w.common_i-is, w.common_j-is)
       | else-r w ↦ inr (w.if-r.false, w.i-is, w.j-is, w.common_i-is, w.common_j-is)
@@ -125,7 +125,7 @@ returns-then-i-gt0 c =
 
 pub returns-then-j-i : goal.returns-then-j-i
 returns-then-j-i c =
-    let cut = turned c.args.rows.now c.args.lens.now (behind c.args.text.now c.args.cursor c.args.limit_backward) c.requires.t c.loop-j.invariant c.wide-len.result c.wide-len.ensures c.compare_b-r.result.common c.compare_b-r.result.less c.compare_b-r.ensures.common_value c.compare_b-r.ensures.less_value
+    let cut = turned c.args.rows.now c.args.lens.now (behind c.args.text.now c.args.cursor c.args.limit_backward) c.requires.ordered_rows c.loop-j.invariant c.wide-len.result c.wide-len.ensures c.compare_b-r.result.common c.compare_b-r.result.less c.compare_b-r.ensures.common_value c.compare_b-r.ensures.less_value
     (elim c.if-r.branch [
       | then-r w ↦ inl (w.if-r.true, w.i-is, w.j-is, w.common_i-is, w.common_j-is)
       | else-r w ↦ inr (w.if-r.false, w.i-is, w.j-is, w.common_i-is, w.common_j-is)
@@ -134,7 +134,7 @@ returns-then-j-i c =
 
 pub returns-then-first_key_inspected : goal.returns-then-first_key_inspected
 returns-then-first_key_inspected c =
-    let cut = turned c.args.rows.now c.args.lens.now (behind c.args.text.now c.args.cursor c.args.limit_backward) c.requires.t c.loop-j.invariant c.wide-len.result c.wide-len.ensures c.compare_b-r.result.common c.compare_b-r.result.less c.compare_b-r.ensures.common_value c.compare_b-r.ensures.less_value
+    let cut = turned c.args.rows.now c.args.lens.now (behind c.args.text.now c.args.cursor c.args.limit_backward) c.requires.ordered_rows c.loop-j.invariant c.wide-len.result c.wide-len.ensures c.compare_b-r.result.common c.compare_b-r.result.less c.compare_b-r.ensures.common_value c.compare_b-r.ensures.less_value
     (elim c.if-r.branch [
       | then-r w ↦ inl (w.if-r.true, w.i-is, w.j-is, w.common_i-is, w.common_j-is)
       | else-r w ↦ inr (w.if-r.false, w.i-is, w.j-is, w.common_i-is, w.common_j-is)

@@ -16,8 +16,8 @@ loop-i-preserved c =
     let r = c.is_start in
     elim c.if-is_start.branch [ then-is_start w ↦ (omega arith, omega (arith, w.n-is), w.n-is ∙ leads_yes x.text.now l.i l.n (omega arith) l.invariant.2 (sym r.ensures ∙ w.if-is_start.true)) | else-is_start w ↦ (omega arith, omega (arith, w.n-is), w.n-is ∙ leads_no x.text.now l.i l.n (omega arith) l.invariant.2 (sym r.ensures ∙ w.if-is_start.false)) ]
 
-pub returns-clause-by_index : goal.returns-clause-by_index
-returns-clause-by_index c =
+pub returns-clause-by_letters : goal.returns-clause-by_letters
+returns-clause-by_letters c =
     let x = c.args in
     let h : c.loop-i.i ≡ x.limit = omega arith in
     let n = c.loop-i.invariant.2 ∙ ap (λ (k : ℕ). leads (take k x.text.now)) h in λ cs e. n ∙ ap leads e ∙ leads-encode cs

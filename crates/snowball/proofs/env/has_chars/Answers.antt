@@ -18,8 +18,8 @@ use Rattle.snowball.proofs.env.has_chars.Goals.{else-is_start, then-is_start}
 by-letters : (r : Bool) (least : ℕ) (bytes : List ℕ) → r ≡ leb least (leads bytes) → (cs : List ℕ) → bytes ≡ encode cs → r ≡ leb least (length cs)
 by-letters r least bytes h cs e = h ∙ ap (leb least) (ap leads e ∙ leads-encode cs)
 
-pub returns-then-i-limit-clause-by_index : goal.returns-then-i-limit-clause-by_index
-returns-then-i-limit-clause-by_index c =
+pub returns-then-i-limit-clause-by_letters : goal.returns-then-i-limit-clause-by_letters
+returns-then-i-limit-clause-by_letters c =
     let x = c.args in
     let l = c.loop-n in
     let h : l.i ≡ x.limit = omega arith in
@@ -33,8 +33,8 @@ loop-n-preserved c =
     let r = c.is_start in
     elim c.if-is_start.branch [ then-is_start w ↦ (omega arith, omega (arith, w.n-is), w.n-is ∙ leads_yes x.text.now l.i l.n (omega arith) l.invariant.2 (sym r.ensures ∙ w.if-is_start.true)) | else-is_start w ↦ (omega arith, omega (arith, w.n-is), w.n-is ∙ leads_no x.text.now l.i l.n (omega arith) l.invariant.2 (sym r.ensures ∙ w.if-is_start.false)) ]
 
-pub returns-clause-by_index : goal.returns-clause-by_index
-returns-clause-by_index c =
+pub returns-clause-by_letters : goal.returns-clause-by_letters
+returns-clause-by_letters c =
     let x = c.args in
     let l = c.loop-n in
     let m = leads-more x.text.now l.i x.limit l.invariant.0 in

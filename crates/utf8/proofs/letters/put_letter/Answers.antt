@@ -7,40 +7,40 @@ use Rattle.utf8.proofs.letters.put_letter.Goals as goal
 pub bounds-out-at : goal.bounds-out-at
 bounds-out-at c = let a = c.args in omega (arith, size_1 a.c (omega arith))
 
-pub returns-then-c-lt128 : goal.returns-then-c-lt128
-returns-then-c-lt128 c =
+pub returns-then-c-lt-TWO_BYTES_FROM : goal.returns-then-c-lt-TWO_BYTES_FROM
+returns-then-c-lt-TWO_BYTES_FROM c =
     let a = c.args in
     put_1 a.out.now a.at a.c c.lead.result (omega arith) (omega (arith, c.lead.ensures)) (omega (arith, size_1 a.c (omega arith)))
 
-pub bounds-out-at-then-c-lt2048 : goal.bounds-out-at-then-c-lt2048
-bounds-out-at-then-c-lt2048 c = let a = c.args in omega (arith, size_2 a.c (omega arith) (omega arith))
+pub bounds-out-at-then-c-lt-THREE_BYTES_FROM : goal.bounds-out-at-then-c-lt-THREE_BYTES_FROM
+bounds-out-at-then-c-lt-THREE_BYTES_FROM c = let a = c.args in omega (arith, size_2 a.c (omega arith) (omega arith))
 
-pub bounds-out-at-then-c-lt2048-2 : goal.bounds-out-at-then-c-lt2048-2
-bounds-out-at-then-c-lt2048-2 c = let a = c.args in simp length-set (omega (arith, size_2 a.c (omega arith) (omega arith)))
+pub bounds-out-at-then-c-lt-THREE_BYTES_FROM-2 : goal.bounds-out-at-then-c-lt-THREE_BYTES_FROM-2
+bounds-out-at-then-c-lt-THREE_BYTES_FROM-2 c = let a = c.args in simp length-set (omega (arith, size_2 a.c (omega arith) (omega arith)))
 
-pub returns-then-c-lt2048 : goal.returns-then-c-lt2048
-returns-then-c-lt2048 c =
+pub returns-then-c-lt-THREE_BYTES_FROM : goal.returns-then-c-lt-THREE_BYTES_FROM
+returns-then-c-lt-THREE_BYTES_FROM c =
     let a = c.args in
-    let x = c.lead-then-c-lt2048 in
+    let x = c.lead-then-c-lt-THREE_BYTES_FROM in
     let y = c.trail in
     put_2 a.out.now a.at a.c x.result y.result (omega arith) (omega arith) x.ensures y.ensures
     (omega (arith, size_2 a.c (omega arith) (omega arith)))
 
-pub bounds-out-at-then-c-lt65536 : goal.bounds-out-at-then-c-lt65536
-bounds-out-at-then-c-lt65536 c = let a = c.args in omega (arith, size_3 a.c (omega arith) (omega arith))
+pub bounds-out-at-then-c-lt-FOUR_BYTES_FROM : goal.bounds-out-at-then-c-lt-FOUR_BYTES_FROM
+bounds-out-at-then-c-lt-FOUR_BYTES_FROM c = let a = c.args in omega (arith, size_3 a.c (omega arith) (omega arith))
 
-pub bounds-out-at-then-c-lt65536-2 : goal.bounds-out-at-then-c-lt65536-2
-bounds-out-at-then-c-lt65536-2 c = let a = c.args in simp length-set (omega (arith, size_3 a.c (omega arith) (omega arith)))
+pub bounds-out-at-then-c-lt-FOUR_BYTES_FROM-2 : goal.bounds-out-at-then-c-lt-FOUR_BYTES_FROM-2
+bounds-out-at-then-c-lt-FOUR_BYTES_FROM-2 c = let a = c.args in simp length-set (omega (arith, size_3 a.c (omega arith) (omega arith)))
 
-pub bounds-out-at-then-c-lt65536-3 : goal.bounds-out-at-then-c-lt65536-3
-bounds-out-at-then-c-lt65536-3 c = let a = c.args in simp length-set (omega (arith, size_3 a.c (omega arith) (omega arith)))
+pub bounds-out-at-then-c-lt-FOUR_BYTES_FROM-3 : goal.bounds-out-at-then-c-lt-FOUR_BYTES_FROM-3
+bounds-out-at-then-c-lt-FOUR_BYTES_FROM-3 c = let a = c.args in simp length-set (omega (arith, size_3 a.c (omega arith) (omega arith)))
 
-pub returns-then-c-lt65536 : goal.returns-then-c-lt65536
-returns-then-c-lt65536 c =
+pub returns-then-c-lt-FOUR_BYTES_FROM : goal.returns-then-c-lt-FOUR_BYTES_FROM
+returns-then-c-lt-FOUR_BYTES_FROM c =
     let a = c.args in
-    let x = c.lead-then-c-lt65536 in
-    let y = c.trail-then-c-lt65536 in
-    let z = c.trail-then-c-lt65536-2 in
+    let x = c.lead-then-c-lt-FOUR_BYTES_FROM in
+    let y = c.trail-then-c-lt-FOUR_BYTES_FROM in
+    let z = c.trail-then-c-lt-FOUR_BYTES_FROM-2 in
     put_3 a.out.now a.at a.c x.result y.result z.result (omega arith) (omega arith) x.ensures y.ensures z.ensures
     (omega (arith, size_3 a.c (omega arith) (omega arith)))
 
