@@ -49,6 +49,13 @@ no_class c x y z (suc (suc zero)) e f g = absurd (f refl)
 no_class c x y z (suc (suc (suc zero))) e f g = absurd (g refl)
 no_class c x y z (suc (suc (suc (suc k)))) e f g = refl
 
+some_class : (c x k : ℕ) → 1 ≤ k → k < 4 → by_class c x x x k ≡ x
+some_class c x zero l u = absurd (omega arith)
+some_class c x (suc zero) l u = refl
+some_class c x (suc (suc zero)) l u = refl
+some_class c x (suc (suc (suc zero))) l u = refl
+some_class c x (suc (suc (suc (suc k)))) l u = absurd (omega arith)
+
 -- a letter alone ends with what it begins with
 both_ends : (c : ℕ) → longest (ends_with (c ∷ [])) A_1 ≡ longest (begins_with (c ∷ [])) A_1
 unfolding A_1 longest longer begins_with ends_with
@@ -58,11 +65,11 @@ module _ (c k : ℕ) (h : k ≡ (row_at A_1 (longest (ends_with (c ∷ [])) A_1)
   last-class : last c ≡ by_class c hamza hamza hamza k
   last-class = main_last c ∙ ap (by_class c hamza hamza hamza) (ap (λ (r : ℕ). (row_at A_1 r).class) (sym (both_ends c)) ∙ sym h)
 
-  pub last_of_class : (n : ℕ) → k ≡ n → by_class c hamza hamza hamza n ≡ last c
-  last_of_class n e = sym (last-class ∙ ap (by_class c hamza hamza hamza) e)
+  pub last_of_class : 1 ≤ k → k < 4 → hamza ≡ last c
+  last_of_class l u = sym (last-class ∙ some_class c hamza k l u)
 
-  pub last_of_none : (k ≡ 1 → ⊥) → (k ≡ 2 → ⊥) → (k ≡ 3 → ⊥) → c ≡ last c
-  last_of_none e f g = sym (last-class ∙ no_class c hamza hamza hamza k e f g)
+  pub last_of_none : k < 1 → c ≡ last c
+  last_of_none u = sym (last-class ∙ no_class c hamza hamza hamza k (λ e. omega (arith, e)) (λ e. omega (arith, e)) (λ e. omega (arith, e)))
 
 module _ (c k : ℕ) (h : k ≡ (row_at A_2 (longest (begins_with (c ∷ [])) A_2)).class) where
   other-class : other c ≡ by_class c alef waw yeh k

@@ -1,58 +1,54 @@
 -- The row that a step takes, as the code decides it: by the row's class, the guard and the letter count. Assumes nothing.
-use mathlib.Core.Path.{◌≡◌, refl, sym, ap, ◌∙◌}
-use mathlib.Core.Bool.{Bool, true, false}
-use mathlib.Core.List.{List, [], ◌∷◌}
+use mathlib.Core.Path.{◌≡◌, refl, sym, ap, ◌∙◌, subst}
+use Rattle.std.specs.Prelude.{Option as Maybe, Some, None, MatchOption, unwrap_or}
+use mathlib.Core.Bool.{Bool, false}
+use mathlib.Core.List.{List}
 use mathlib.Core.Option.{none, some}
-use Prim.Native.Nat.{ℕ, zero, suc, ◌-◌, ◌≤◌, ◌<◌}
+use Prim.Native.Nat.{ℕ, zero, suc, ◌-◌}
 use native.Mathlib.Omega.{arith}
 use lib.Dec.{leb}
-use lib.ListN.{length, take, get_or}
-use borrow.Author.Tests.{le-leb, lt-leb}
+use lib.ListN.{length, take, drop, length-drop}
+use lib.Seq.{take-length, take-take}
 use Rattle.definition.specs.Words.{Word, pick}
 use Rattle.definition.specs.Search.{Rule, row_at, longest, least_letters, met, taken}
 use Rattle.snowball.specs.Search.{between}
 
 -- ---- guards
-pub guard_at : (g : List ℕ) (c k : ℕ) → (c ≡ 0 → ⊥) → k ≡ c - 1 → get_or g k 0 ≡ least_letters g c
-guard_at g zero k h e = absurd (h refl)
-guard_at g (suc c) k h e = let z : k ≡ c = omega arith in ap (λ (n : ℕ). get_or g n 0) z
-
-pub guard_beyond : (g : List ℕ) (c k : ℕ) → (c ≡ 0 → ⊥) → k ≡ c - 1 → length g ≤ k → 0 ≡ least_letters g c
-guard_beyond g zero k h e l = absurd (h refl)
-guard_beyond g (suc c) k h e l = go g c (omega arith)
-  where
-    go : (g : List ℕ) (k : ℕ) → length g ≤ k → 0 ≡ get_or g k 0
-    go [] k l = refl
-    go (x ∷ g) zero l = absurd (omega arith)
-    go (x ∷ g) (suc k) l = go g k (omega arith)
-
-met_is : (g : List ℕ) (c n : ℕ) → (c ≡ 0 → ⊥) → met g c n ≡ leb (least_letters g c) n
+pub met_is : (g : List ℕ) (c n : ℕ) → (c ≡ 0 → ⊥) → met g c n ≡ leb (least_letters g c) n
 unfolding met
 met_is g zero n h = absurd (h refl)
 met_is g (suc c) n h = refl
 
-met_zero : (g : List ℕ) (c n : ℕ) → c ≡ 0 → met g c n ≡ false
+pub met_zero : (g : List ℕ) (c n : ℕ) → c ≡ 0 → met g c n ≡ false
 unfolding met
 met_zero g zero n h = refl
 met_zero g (suc c) n h = absurd (omega arith)
 
 -- ---- the row
-module _ (match : Word → Bool) (s : Rule) (n class : ℕ) (c : class ≡ (row_at s.table (longest match s.table)).class) where
-  by_met : (b : Bool) → met s.guards class n ≡ b → taken match s n ≡ pick b (some (longest match s.table)) none
-  unfolding taken
-  by_met b h = ap (λ (x : Bool). pick x (some (longest match s.table)) none) (ap (λ (k : ℕ). met s.guards k n) (sym c) ∙ h)
+-- a row is taken where its guard is met
+pub taken_is : (match : Word → Bool) (s : Rule) (n class : ℕ) → class ≡ (row_at s.table (longest match s.table)).class
+    → (b : Bool) → b ≡ met s.guards class n → taken match s n ≡ pick b (some (longest match s.table)) none
+unfolding taken
+taken_is match s n class c b h = ap (λ (x : Bool). pick x (some (longest match s.table)) none) (ap (λ (k : ℕ). met s.guards k n) (sym c) ∙ sym h)
 
-  pub no_class : class ≡ 0 → taken match s n ≡ none
-  no_class h = by_met false (met_zero s.guards class n h)
-
-  module _ (some1 : class ≡ 0 → ⊥) (letters least : ℕ) (en : letters ≡ n) (eg : least ≡ least_letters s.guards class) where
-    pub too_few : letters < least → taken match s n ≡ none
-    too_few h = by_met false (met_is s.guards class n some1 ∙ lt-leb (least_letters s.guards class) n (omega arith))
-
-    pub enough : least ≤ letters → taken match s n ≡ some (longest match s.table)
-    enough h = by_met true (met_is s.guards class n some1 ∙ le-leb (least_letters s.guards class) n (omega arith))
-
--- ---- the bytes from the start of a text
-pub from_start : (t : List ℕ) (limit : ℕ) → between t 0 limit ≡ take limit t
+-- ---- all bytes of a text
+pub whole : (t : List ℕ) → between t 0 (length t) ≡ t
 unfolding between
-from_start t limit = let e : limit - 0 ≡ limit = omega arith in ap (λ (n : ℕ). take n t) e
+whole t = let e : length t - 0 ≡ length t = omega arith in ap (λ (n : ℕ). take n t) e ∙ take-length t
+
+-- those of the first n bytes of one
+pub front : (t : List ℕ) (n : ℕ) (b : List ℕ) → b ≡ take n t → between b 0 n ≡ take n t
+unfolding between
+front t n b e = let z : n - 0 ≡ n = omega arith in (λ i. take (z i) (e i)) ∙ take-take n n t (omega arith)
+
+-- and those from a place on
+pub from_here : (t : List ℕ) (i : ℕ) → between t i (length t) ≡ drop i t
+unfolding between
+from_here t i = ap (λ (n : ℕ). take n (drop i t)) (sym (length-drop i t)) ∙ take-length (drop i t)
+
+-- ---- what is there, and what is not
+pub some_none : {A : Type 0} {x : A} → Some x ≡ None → ⊥
+some_none {A} e = subst (λ (o : Maybe A). MatchOption o ⊥ (λ _. Unit {0})) e tt
+
+pub some-same : {A : Type 0} {x y : A} → Some x ≡ Some y → x ≡ y
+some-same {A} {x} e = ap (λ (o : Maybe A). unwrap_or o x) e

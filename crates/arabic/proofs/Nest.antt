@@ -1,46 +1,60 @@
 -- The laws of a branch in a nest of alternatives, whatever an environment stands for. Assumes nothing.
-use mathlib.Core.Path.{◌≡◌, refl, sym, ◌∙◌}
-use mathlib.Core.Bool.{true, false, false≢true}
+use mathlib.Core.Path.{◌≡◌, refl, sym, ap, ◌∙◌, subst}
+use Rattle.std.specs.Prelude.{Result, Ok, Err, MatchResult, IsOkAnd}
 use mathlib.Core.List.{[], ◌∷◌}
-use Prim.Native.Nat.{ℕ}
+use Prim.Native.Nat.{ℕ, ◌≤◌}
+use native.Mathlib.Omega.{arith}
 use lib.ListN.{length}
-use Rattle.definition.specs.Tries.{Try, done, failed, Step, after, and_then, if_failed, nothing, ◌then_try◌, attempt, again, first_of}
-use Rattle.definition.specs.Endings.{Cutting, uncut, cut, verb_step1, verb_step2a, verb_step2b, verb_step2c, noun_step1b, noun_step2a, noun_step2b, noun_step2c1, noun_step3, verb, noun, endings, suffix_all_alef_maqsura, maqsura_if_failed}
+use Rattle.definition.specs.Tries.{Try, done, failed, Step, after, and_then, if_failed, nothing, ◌then_try◌, attempt, again}
+use Rattle.definition.specs.Endings.{Cutting, uncut, cut, verb_step1, verb_step2a, verb_step2b, verb_step2c, noun_step1b, noun_step2a, noun_step2b, noun_step2c1, noun_step2c2, noun_step3, verb, noun, endings, suffix_all_alef_maqsura, maqsura_if_failed}
 use Rattle.definition.specs.Words.{Word}
 use Rattle.definition.specs.Fronts.{Fronting, prefix_step1, prefix_step2, prefix_step3a_noun, prefix_step3b_noun, prefix_step3_verb, prefix_step4_verb, apply, prefix_steps}
-use Rattle.definition.specs.Kind.{Kind, DEFINED, if_open}
+use Rattle.definition.specs.Kind.{Kind, if_open}
 use Rattle.definition.proofs.Tried.{first_from_lem}
 use Rattle.snowball.specs.declared.env.Env.{Env}
 use Rattle.snowball.specs.Stands.{Stands}
-use Rattle.arabic.specs.declared.tried.Tried.{Tried}
+use Rattle.snowball.specs.Stands.{handed_back}
 use Rattle.arabic.specs.Tried.{Answers}
-use Rattle.arabic.specs.Endings.{at_end, Ready, Gives, Given}
-use Rattle.arabic.specs.Fronts.{ReadyFront, GivenFront}
-use Rattle.arabic.specs.Nests.{after_step1, after_step1b, by_step1b, noun_first, verb_steps}
+use Rattle.arabic.specs.Endings.{at_end, Ends, Ready, Gives}
+use Rattle.arabic.proofs.Repeat.{after-fits}
+use Rattle.arabic.specs.Nests.{after_step1, after_step1b, by_step1b, noun_first, verb_steps, prefix_step3}
 
-pub ready : (t : Tried) → Given t → Ready t.env
-ready t g = (after g.0, g.1.env)
+module _ {A : Type 0} (S : Env → A → Type 0) where
+  -- the alternative behind t, which is tried where t has failed
+  pub or_else : (t r : Result Env Env) (g : Step A) → MatchResult t (λ e. r ≡ Ok e) (λ e. (v : A) → S e v → Answers S r (g v)) → (y : Try A) → Answers S t y → Answers S r (if_failed y g)
+  or_else (Ok e) r g k (done a) h = subst (λ (x : Result Env Env). Answers S x (done a)) (sym k) h
+  or_else (Ok e) r g k (failed a) h = absurd h
+  or_else (Err e) r g k (done a) h = absurd h
+  or_else (Err e) r g k (failed a) h = k a h
 
-module _ {A : Type 0} {S : Env → A → Type 0} (t : Tried) where
-  pub or_yes : (g : Step A) → t.found ≡ true → (y : Try A) → Answers S t y → Answers S t (if_failed y g)
-  or_yes g e (done a) h = h
-  or_yes g e (failed a) h = absurd (false≢true (sym h.found ∙ e))
+  -- what follows t where t has succeeded
+  pub and_next : (t r : Result Env Env) (g : Step A) → MatchResult t (λ e. (v : A) → S e v → Answers S r (g v)) (λ e. r ≡ Err e) → (y : Try A) → Answers S t y → Answers S r (and_then y g)
+  and_next (Ok e) r g k (done a) h = k a h
+  and_next (Ok e) r g k (failed a) h = absurd h
+  and_next (Err e) r g k (done a) h = absurd h
+  and_next (Err e) r g k (failed a) h = subst (λ (x : Result Env Env). Answers S x (failed a)) (sym k) h
 
-  pub or_no : (r : Tried) (g : Step A) → t.found ≡ false → ((v : A) → S t.env v → Answers S r (g v)) → (y : Try A) → Answers S t y → Answers S r (if_failed y g)
-  or_no r g e k (done a) h = absurd (false≢true (sym e ∙ h.found))
-  or_no r g e k (failed a) h = k a h.env
+  -- what a step leaves, where nothing is the last alternative: e is the environment, and z what is tried
+  pub left_is : (t : Result Env Env) (y z : Try A) (e : Env) → if_failed y nothing ≡ z → e ≡ handed_back t → Answers S t y → (a : A) × ((z ≡ done a) × S e a)
+  left_is (Ok x) (done a) z e q p h = (a, (sym q, subst (λ (i : Env). S i a) (sym p) h))
+  left_is (Ok x) (failed a) z e q p h = absurd h
+  left_is (Err x) (done a) z e q p h = absurd h
+  left_is (Err x) (failed a) z e q p h = (a, (sym q, subst (λ (i : Env). S i a) (sym p) h))
 
-  pub then_yes : (r : Tried) (g : Step A) → t.found ≡ true → (y : Try A) → Answers S t y → ((v : A) → v ≡ after y → S t.env v → Answers S r (g v)) → Answers S r (and_then y g)
-  then_yes r g e (done a) h k = k a refl h.env
-  then_yes r g e (failed a) h k = absurd (false≢true (sym h.found ∙ e))
+  -- what a step leaves, whether it succeeds or not
+  pub left_after : (t : Result Env Env) (y : Try A) (e : Env) → e ≡ handed_back t → Answers S t y → S e (after y)
+  left_after (Ok x) (done a) e p h = subst (λ (i : Env). S i a) (sym p) h
+  left_after (Ok x) (failed a) e p h = absurd h
+  left_after (Err x) (done a) e p h = absurd h
+  left_after (Err x) (failed a) e p h = subst (λ (i : Env). S i a) (sym p) h
 
-  pub then_no : (g : Step A) → t.found ≡ false → (y : Try A) → Answers S t y → Answers S t (and_then y g)
-  then_no g e (done a) h = absurd (false≢true (sym e ∙ h.found))
-  then_no g e (failed a) h = h
-
-  pub or_nothing : (y : Try A) → Answers S t y → Answers S (record { found = true; env = t.env }) (if_failed y nothing)
-  or_nothing (done a) h = record { found = refl; env = h.env }
-  or_nothing (failed a) h = record { found = refl; env = h.env }
+-- where a step has failed, what it leaves is ready for the next alternative
+pub ready_err : (t : Result Env Env) (y : Try Cutting) → Gives t y → (e : Env) → t ≡ Err e → Ready e
+ready_err t y g e q = go y (subst (λ (r : Result Env Env). Gives r y) q g)
+  where
+    go : (y : Try Cutting) → Gives (Err e) y → Ready e
+    go (done a) h = absurd h
+    go (failed a) h = (a, h)
 
 -- ---- the verb, as straight-line code tries it
 pub after_step1_is : (v : Cutting) → if_failed (if_failed (cut verb_step2a v) (cut verb_step2c)) nothing ≡ after_step1 v
@@ -51,6 +65,34 @@ pub verb_is : (v : Cutting) → if_failed (if_failed (and_then (and_then (cut ve
 unfolding verb after_step1 ◌then_try◌
 verb_is v = sym (first_from_lem (cut verb_step1 then_try again (length v.text) (cut verb_step1) then_try after_step1) (cut verb_step2b ∷ cut verb_step2a ∷ []) v)
 
+-- what a repetition of Step1 leaves is ready for what follows it
+pub repeated_ready : (e r : Env) → Ready e → ((v : Cutting) → Ends e v → (n : ℕ) → length v.text ≤ n → (w : Cutting) × ((again n (cut verb_step1) v ≡ done w) × Ends r w)) → Ready r
+repeated_ready e r p f = let q = f p.0 p.1 (length p.0.text) (omega arith) in (q.0, q.1.1)
+
+-- and what follows it
+pub behind_step1 : (e r x : Env) → ((v : Cutting) → Ends e v → (n : ℕ) → length v.text ≤ n → (w : Cutting) × ((again n (cut verb_step1) v ≡ done w) × Ends r w))
+    → ((v : Cutting) → Ends r v → (w : Cutting) × ((after_step1 v ≡ done w) × Ends x w))
+    → (v : Cutting) → Ends e v → (n : ℕ) → length v.text ≤ n → (w : Cutting) × ((and_then (again n (cut verb_step1) v) after_step1 ≡ done w) × Ends x w)
+behind_step1 e r x f g v st n h =
+    let q = f v st n h in
+    let a = g q.0 q.1.1 in
+    (a.0, (ap (λ (y : Try Cutting). and_then y after_step1) q.1.0 ∙ a.1.0, a.1.1))
+
+-- Step1 and what follows it, where r is what is made of its answer t
+pub by_step1 : (t r : Result Env Env) (v : Cutting)
+    → MatchResult t (λ e. IsOkAnd r (λ x. (u : Cutting) → Ends e u → (n : ℕ) → length u.text ≤ n → (w : Cutting) × ((and_then (again n (cut verb_step1) u) after_step1 ≡ done w) × Ends x w))) (λ e. r ≡ Err e)
+    → Gives t (cut verb_step1 v) → Gives r (and_then (and_then (cut verb_step1 v) (again (length v.text) (cut verb_step1))) after_step1)
+by_step1 t r v k = go t r k (cut verb_step1 v) (length v.text) (after-fits verb_step1 v)
+  where
+    go : (t r : Result Env Env)
+        → MatchResult t (λ e. IsOkAnd r (λ x. (u : Cutting) → Ends e u → (n : ℕ) → length u.text ≤ n → (w : Cutting) × ((and_then (again n (cut verb_step1) u) after_step1 ≡ done w) × Ends x w))) (λ e. r ≡ Err e)
+        → (y : Try Cutting) (n : ℕ) → length (after y).text ≤ n → Gives t y → Gives r (and_then (and_then y (again n (cut verb_step1))) after_step1)
+    go (Ok e) (Ok x) k (done u) n l h = let q = k u h n l in subst (Gives (Ok x)) (sym q.1.0) q.1.1
+    go (Ok e) (Err x) k (done u) n l h = absurd k
+    go (Ok e) r k (failed u) n l h = absurd h
+    go (Err e) r k (done u) n l h = absurd h
+    go (Err e) r k (failed u) n l h = subst (λ (x : Result Env Env). Gives x (failed u)) (sym k) h
+
 -- ---- the noun
 pub after_step1b_is : (v : Cutting) → if_failed (if_failed (cut noun_step2a v) (cut noun_step2b)) (cut noun_step2c1) ≡ after_step1b v
 unfolding after_step1b
@@ -60,20 +102,13 @@ pub by_step1b_is : (v : Cutting) → and_then (cut noun_step1b v) after_step1b �
 unfolding by_step1b ◌then_try◌
 by_step1b_is v = refl
 
+pub noun_first_is : (k : Kind) (v : Cutting) → if_failed (if_failed (if_failed (if_failed (cut noun_step2c2 v) by_step1b) (if_open k (cut noun_step2a))) (cut noun_step2b)) nothing ≡ noun_first k v
+unfolding noun_first
+noun_first_is k v = sym (first_from_lem (cut noun_step2c2) (by_step1b ∷ if_open k (cut noun_step2a) ∷ cut noun_step2b ∷ nothing ∷ []) v)
+
 pub noun_is : (k : Kind) (v : Cutting) → and_then (noun_first k v) (cut noun_step3) ≡ noun k v
 unfolding noun noun_first by_step1b after_step1b ◌then_try◌
 noun_is k v = refl
-
--- the last alternative is nothing
-pub last-nothing : {A : Type 0} (y : Try A) → if_failed y nothing ≡ if_failed y (first_of (nothing ∷ []))
-unfolding first_of
-last-nothing (done a) = refl
-last-nothing (failed a) = refl
-
--- a step that is not for this word
-pub not_open : {A : Type 0} {S : Env → A → Type 0} (t : Tried) (f : Step A) → t.found ≡ false → (y : Try A) → Answers S t y → Answers S t (if_failed y (if_open DEFINED f))
-not_open t f e (done a) h = absurd (false≢true (sym e ∙ h.found))
-not_open t f e (failed a) h = h
 
 -- ---- item 3
 pub endings_is : (k : Kind) (w : Word) → if_failed (if_open k verb (uncut w)) (noun k) ≡ endings k w
@@ -84,26 +119,26 @@ endings_is k w = sym (first_from_lem (if_open k verb) (noun k ∷ []) (uncut w))
 abbrev Left : Env → ℕ → Try Cutting → Type 0
 Left e n y = Stands e (at_end (maqsura_if_failed y (after y).text)) × (n ≡ length (after y).cuts)
 
-pub maqsura-done : (t : Tried) (y : Try Cutting) → Gives t y → t.found ≡ true → Left t.env t.env.endings y
+pub maqsura-done : (e : Env) (y : Try Cutting) → Gives (Ok e) y → Left e e.endings y
 unfolding maqsura_if_failed
-maqsura-done t (done v) g e = (g.env.stands, g.env.counted)
-maqsura-done t (failed v) g e = absurd (false≢true (sym g.found ∙ e))
+maqsura-done e (done v) g = (g.stands, g.counted)
+maqsura-done e (failed v) g = absurd g
 
-pub maqsura-failed : (t : Tried) (r : Env) (y : Try Cutting) → Gives t y → t.found ≡ false
-    → ((w : Word) → Stands t.env (at_end w) → Stands r (at_end (suffix_all_alef_maqsura w))) → Left r t.env.endings y
+pub maqsura-failed : (e r : Env) (y : Try Cutting) → Gives (Err e) y
+    → ((w : Word) → Stands e (at_end w) → Stands r (at_end (suffix_all_alef_maqsura w))) → Left r e.endings y
 unfolding maqsura_if_failed
-maqsura-failed t r (done v) g e f = absurd (false≢true (sym e ∙ g.found))
-maqsura-failed t r (failed v) g e f = (f v.text g.env.stands, g.env.counted)
+maqsura-failed e r (done v) g f = absurd g
+maqsura-failed e r (failed v) g f = (f v.text g.stands, g.counted)
 
 -- ---- item 4
-pub ready_front : (t : Tried) → GivenFront t → ReadyFront t.env
-ready_front t g = (after g.0, g.1.env)
-
 pub verb_steps_is : (w : Fronting) → apply prefix_step4_verb (after (apply prefix_step3_verb w)) ≡ verb_steps w
 unfolding verb_steps attempt ◌then_try◌
 verb_steps_is w = refl
 
-pub prefix_steps_is : (k : Kind) (w : Fronting)
-    → if_failed (if_failed (apply prefix_step3a_noun (after (apply prefix_step2 (after (apply prefix_step1 w))))) (apply prefix_step3b_noun)) (if_open k verb_steps) ≡ prefix_steps k w
-unfolding prefix_steps verb_steps attempt ◌then_try◌
-prefix_steps_is k w = sym (first_from_lem (apply prefix_step3a_noun) (apply prefix_step3b_noun ∷ if_open k verb_steps ∷ []) (after (apply prefix_step2 (after (apply prefix_step1 w)))))
+pub prefix_step3_is : (k : Kind) (w : Fronting) → if_failed (if_failed (apply prefix_step3a_noun w) (apply prefix_step3b_noun)) (if_open k verb_steps) ≡ prefix_step3 k w
+unfolding prefix_step3
+prefix_step3_is k w = sym (first_from_lem (apply prefix_step3a_noun) (apply prefix_step3b_noun ∷ if_open k verb_steps ∷ []) w)
+
+pub prefix_steps_is : (k : Kind) (w : Fronting) → prefix_step3 k (after (apply prefix_step2 (after (apply prefix_step1 w)))) ≡ prefix_steps k w
+unfolding prefix_steps prefix_step3 verb_steps attempt ◌then_try◌
+prefix_steps_is k w = refl

@@ -1,10 +1,10 @@
 -- The environments that r_Normalize_pre and r_Normalize_post leave stand for the word normalised and finished. Assumes nothing.
-use mathlib.Core.Path.{◌≡◌, refl, sym, ap, ◌∙◌, subst}
+use mathlib.Core.Path.{◌≡◌, refl, sym, ◌∙◌, subst}
 use mathlib.Core.Bool.{true}
 use mathlib.Core.List.{List}
 use Prim.Native.Nat.{ℕ}
 use native.Mathlib.Omega.{arith}
-use lib.ListN.{length, take, length-take}
+use lib.ListN.{take}
 use Rattle.utf8.specs.Utf8.{encode}
 use Rattle.definition.specs.Words.{Word, every}
 use Rattle.definition.specs.Normal.{normalise}
@@ -19,15 +19,12 @@ use Rattle.arabic.proofs.Gives.{normalise-scalars}
 use Rattle.arabic.proofs.Changes.{finish-size, finish-scalars}
 
 module _ {current : List ℕ} {limit at behind : ℕ} where
-  pub encoded : {s : Chars} → Standing current limit at behind s → Encodes (take limit current) s.text
-  encoded v = (v.scalars, v.bytes)
+  -- the text in bytes
+  pub encoded : {s : Chars} → Standing current limit at behind s → (t : List ℕ) → t ≡ take limit current → Encodes t s.text
+  encoded v t p = (v.scalars, p ∙ v.bytes)
 
-  pub spelt : {s : Chars} → Standing current limit at behind s → Spelt current limit
-  spelt {s} v = record {
-    word = s.text;
-    encodes = encoded v;
-    within = omega (arith, length-take limit current, ap length v.bytes, v.sized);
-  }
+  pub spelt : {s : Chars} → Standing current limit at behind s → (t : List ℕ) → t ≡ take limit current → Spelt t
+  spelt {s} v t p = record { word = s.text; encodes = encoded v t p }
 
   pub normalised : (w : Word) → Standing current limit at behind (started w) → (new : List ℕ) (n : ℕ) → Normalised w new n
       → Standing new n 0 0 (started (normalise w))
@@ -47,12 +44,12 @@ module _ {current : List ℕ} {limit at behind : ℕ} where
       → Standing current limit at behind (started (normalise w))
   passed w v p = subst (λ (n : Word). Standing current limit at behind (started n)) (sym (plain_word w p)) v
 
-  pub finished : (w : Word) → Standing current limit at behind (started w) → (new : List ℕ) → Finished w new limit
-      → Standing new limit at behind (started (finish w))
-  finished w v new d =
+  pub finished : (w : Word) → Standing current limit at behind (started w) → (old new all : List ℕ) → take limit all ≡ new → Finished w old new
+      → Standing all limit at behind (started (finish w))
+  finished w v old new all t d =
       record {
         scalars = finish-scalars w v.scalars;
-        bytes = d;
+        bytes = t ∙ d.bytes;
         sized = v.sized ∙ sym (finish-size w);
         within = v.within;
         cursor = (omega arith, v.cursor.1);

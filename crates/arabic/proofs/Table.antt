@@ -11,7 +11,7 @@ use lib.ListN.{length, get_or, length-append, get_or-map}
 use borrow.Author.Tests.{eqb-true, ltb-true, leb-true}
 use Rattle.utf8.specs.Utf8.{encode1, encode}
 use Rattle.utf8.proofs.Text.{encode_one, encode-append}
-use Rattle.definition.specs.Words.{Word, both, every, same, begins_with}
+use Rattle.definition.specs.Words.{Word, both, every, begins_with}
 use Rattle.definition.specs.Tables.{Row, Table, A_0}
 use Rattle.definition.specs.Search.{row_at}
 use Rattle.definition.specs.Normal.{gives, listed_for, given, normal, normalise}
@@ -23,7 +23,7 @@ use Rattle.arabic.specs.Rows.{key_of, keys, classes, row_of, class_of, right_row
 -- ---- the one test, and its parts
 
 pub right_table_lem : right_table ≡ true
-unfolding A_0 given gives listed_for encode encode1 same
+unfolding A_0 given gives listed_for encode encode1
 right_table_lem = refl
 
 length_rows : length A_0 ≡ 161
@@ -86,6 +86,9 @@ module _ (r : Row) (e : right_row r ≡ true) where
   one_letter : r.letters ≡ key_of r ∷ []
   one_letter = single_word r.letters (eqb-true (length r.letters) 1 (both_0 (eqb (length r.letters) 1) (both (ltb 0 r.class) (both (ltb r.class 56) grown)) e))
 
+  some_class : 0 < r.class
+  some_class = ltb-true 0 r.class (both_0 (ltb 0 r.class) (both (ltb r.class 56) grown) (both_1 (eqb (length r.letters) 1) (both (ltb 0 r.class) (both (ltb r.class 56) grown)) e))
+
   classed : both (ltb r.class 56) grown ≡ true
   classed = both_1 (ltb 0 r.class) (both (ltb r.class 56) grown) (both_1 (eqb (length r.letters) 1) (both (ltb 0 r.class) (both (ltb r.class 56) grown)) e)
 
@@ -147,8 +150,12 @@ by_row c f g =
     (λ (e : row_of c ≡ length A_0). g (e ∙ length_rows) (ap (λ (r : ℕ). (row_at A_0 r).class) e ∙ row-behind A_0))
     (longest-found (begins_with (c ∷ [])) A_0)
 
-pub row_top : (c : ℕ) → row_of c ≤ 161
-row_top c = by_row c (λ h e. omega arith) (λ h e. omega arith)
+pub class_none : (c : ℕ) → row_of c ≡ 161 → class_of c ≡ 0
+class_none c r = by_row c (λ h e. absurd (omega arith)) (λ h e. e)
+
+pub class_positive : (c : ℕ) → row_of c < 161 → 0 < class_of c
+unfolding class_of
+class_positive c h = some_class (row_at A_0 (row_of c)) (right_row_lem (row_of c) h)
 
 pub class_at : (c : ℕ) → get_or classes (row_of c) 0 ≡ class_of c
 unfolding classes class_of

@@ -1,5 +1,5 @@
 -- The environments of item 3: the cursor stands at the end of the text, and a search backward may go all the way.
-use Rattle.std.specs.Prelude.{ℕ, ◌+◌, ◌-◌, ◌≤◌, ◌≡◌, length}
+use Rattle.std.specs.Prelude.{ℕ, ◌+◌, ◌-◌, ◌≤◌, ◌≡◌, length, Option as Maybe, Some, None, Result}
 use Rattle.std.proofs.Math.Option.{Option, none, some}
 use Rattle.definition.specs.Words.{Word, ends_with}
 use Rattle.definition.specs.Search.{row_at, taken}
@@ -10,8 +10,7 @@ use Rattle.utf8.specs.Places.{size}
 use Rattle.snowball.specs.declared.env.Env.{Env}
 use Rattle.snowball.specs.Chars.{Chars}
 use Rattle.snowball.specs.Stands.{work_size, Stands}
-use Rattle.arabic.specs.declared.tried.Tried.{Tried}
-use Rattle.arabic.specs.declared.suffix_halves.FoundEnding.{FoundEnding}
+use Rattle.arabic.specs.declared.tried.Searched.{Searched}
 use Rattle.arabic.specs.Tried.{Answers}
 
 abbrev pub at_end : Word → Chars
@@ -26,21 +25,18 @@ pub record Ends (e : Env) (v : Cutting) : Type 0 where
 abbrev pub Ready : Env → Type 0
 Ready e = (v : Cutting) × Ends e v
 
-abbrev pub Gives : Tried → Try Cutting → Type 0
+abbrev pub Gives : Result Env Env → Try Cutting → Type 0
 Gives r y = Answers Ends r y
 
-abbrev pub Given : Tried → Type 0
-Given t = (y : Try Cutting) × Gives t y
+-- where the ending that a step takes begins, in a text of so many bytes; none where the step takes none
+abbrev pub place_by : SuffixStep → ℕ → Option ℕ → Maybe ℕ
+place_by s limit none = None
+place_by s limit (some r) = Some (limit - size (row_at (suffix s).table r).letters)
 
--- where the ending that a step takes begins, in a text of so many bytes; its end where the step takes none
-abbrev pub place_by : SuffixStep → ℕ → Option ℕ → ℕ
-place_by s limit none = limit
-place_by s limit (some r) = limit - size (row_at (suffix s).table r).letters
-
-unfoldable pub ending_at : SuffixStep → Word → ℕ → ℕ
+unfoldable pub ending_at : SuffixStep → Word → ℕ → Maybe ℕ
 ending_at s w limit = place_by s limit (taken (ends_with w) (suffix s) (length w))
 
 -- f has the row of the step s in the text w of so many bytes, and where the ending begins that s takes
-pub record TakesEnding (s : SuffixStep) (w : Word) (limit : ℕ) (f : FoundEnding) : Type 0 where
+pub record TakesEnding (s : SuffixStep) (w : Word) (limit : ℕ) (f : Searched (Maybe ℕ)) : Type 0 where
   pub row : f.row ≡ step_row (of_ending s) w
-  pub place : f.place ≡ ending_at s w limit
+  pub place : f.outcome ≡ ending_at s w limit

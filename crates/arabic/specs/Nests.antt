@@ -1,7 +1,7 @@
 -- Parts of items 3 and 4 that have functions of their own, put together from the lists of the definition.
 use Rattle.definition.specs.Tries.{Step, in_turn, first_of}
 use Rattle.definition.specs.Kind.{Kind}
-use Rattle.definition.specs.Fronts.{Fronting, prefix_step3_verb_in_turn}
+use Rattle.definition.specs.Fronts.{Fronting, prefix_step3_verb_in_turn, prefix_step3_choices}
 use Rattle.definition.specs.Endings.{Cutting, after_verb_step1, after_noun_step1b, noun_step1b_in_turn, noun_choices}
 
 -- what follows the cuts of the verb's Step1
@@ -23,3 +23,7 @@ noun_first k = first_of (noun_choices k by_step1b)
 -- the verb's part of item 4
 unfoldable pub verb_steps : Step Fronting
 verb_steps = in_turn prefix_step3_verb_in_turn
+
+-- the alternatives behind Step1 and Step2
+unfoldable pub prefix_step3 : Kind → Step Fronting
+prefix_step3 k = first_of (prefix_step3_choices k verb_steps)

@@ -1,11 +1,10 @@
--- A_0 as numbers: the keys, the classes, and what each class gives. The constants of the code are these lists. Last the test of the table.
-use Rattle.std.specs.Prelude.{ℕ, zero, suc, ◌+◌, ◌*◌, ◌/◌, ◌%◌, Bool, true, List, [], ◌∷◌, map, eqb, ltb, leb, length, get_or}
-use Rattle.definition.specs.Words.{Word, pick, both, every, same, begins_with}
+-- A_0 in columns: the keys, the classes, and what each class gives. The constants of the code are these lists. Last the test of the table.
+use Rattle.std.specs.Prelude.{ℕ, zero, suc, ◌*◌, Bool, true, List, [], ◌∷◌, map, eqb, ltb, leb, length, get_or, Option, Some, None}
+use Rattle.definition.specs.Words.{Word, both, every, begins_with}
 use Rattle.definition.specs.Tables.{Row, Table, A_0}
 use Rattle.definition.specs.Search.{row_at, longest}
 use Rattle.definition.specs.Normal.{gives, listed_for, given}
 use Rattle.utf8.specs.Utf8.{encode1, encode}
-use Rattle.snowball.specs.Rows.{low}
 
 -- the letter of a row
 abbrev pub key_of : Row → ℕ
@@ -27,23 +26,24 @@ row_of c = longest (begins_with (c ∷ [])) A_0
 unfoldable pub class_of : ℕ → ℕ
 class_of c = (row_at A_0 (row_of c)).class
 
--- letters in one number, 16 bits each, the first lowest
-abbrev pub packed : Word → ℕ
-packed [] = 0
-packed (c ∷ w) = c + 65536 * packed w
+-- a class as the code has it: none for class 0
+abbrev pub listed : ℕ → Option ℕ
+listed zero = None
+listed (suc k) = Some (suc k)
 
--- the letters, at most two, that a number holds
-abbrev pub unpacked : ℕ → Word
-unpacked v = pick (eqb v 0) [] (pick (ltb v 65536) (v ∷ []) (v % 65536 ∷ v / 65536 ∷ []))
-
--- what n classes give, from class k on, each in a number
-abbrev pub given_from : ℕ → ℕ → List ℕ
-given_from zero k = []
-given_from (suc n) k = packed (listed_for gives k) ∷ given_from n (suc k)
+-- what n classes give, from class k on, each in UTF-8
+abbrev pub gives_from : ℕ → ℕ → List (List ℕ)
+gives_from zero k = []
+gives_from (suc n) k = encode (listed_for gives k) ∷ gives_from n (suc k)
 
 -- what the classes 0 to 55 give
-unfoldable pub packed_gives : List ℕ
-packed_gives = given_from 56 0
+unfoldable pub all_gives : List (List ℕ)
+all_gives = gives_from 56 0
+
+-- the bytes of what stands for a letter with this class and these bytes
+abbrev pub given_bytes : Option ℕ → List ℕ → List ℕ
+given_bytes None letter = letter
+given_bytes (Some k) letter = get_or all_gives k []
 
 -- ---- the test of A_0, all of its rows and what all of its classes give
 
@@ -59,9 +59,9 @@ abbrev pub right_rows : ℕ → Table → Bool
 right_rows p [] = true
 right_rows p (r ∷ t) = both (ltb p (key_of r)) (both (right_row r) (right_rows (key_of r) t))
 
--- letters below D800 that a number below 2^28 holds
+-- at most two letters, each from 1 to FFF
 abbrev pub right_letters : Word → Bool
-right_letters w = both (same (unpacked (packed w)) w) (both (ltb (packed w) 0x10000000) (low w))
+right_letters w = both (leb (length w) 2) (every (λ (c : ℕ). both (ltb 0 c) (ltb c 0x1000)) w)
 
 abbrev pub right_for : Row → Bool
 right_for r = right_letters r.letters

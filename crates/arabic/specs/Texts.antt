@@ -20,6 +20,7 @@ pub record Normalised (cs : Word) (new : List ℕ) (r : ℕ) : Type 0 where
 abbrev pub changed : Bool → ℕ → ℕ
 changed ending c = pick ending (last c) (other c)
 
--- item 5: the first limit bytes of new encode cs finished
-abbrev pub Finished : Word → List ℕ → ℕ → Type 0
-Finished cs new limit = take limit new ≡ encode (finish cs)
+-- item 5: new encodes cs finished, and is as long as old
+pub record Finished (cs : Word) (old new : List ℕ) : Type 0 where
+  pub bytes : new ≡ encode (finish cs)
+  pub sized : length new ≡ length old

@@ -1,5 +1,5 @@
 // The table A_0 of r_Normalize_pre. Each row is one letter: the letters as numbers, in rising order.
-pub const A_0_KEYS: [u32; 161] = [
+pub static A_0_KEYS: [u32; 161] = [
     0x21, 0x22, 0x25, 0x2A, 0x2C, 0x2E, 0x2F, 0x3A, 0x3B, 0x3F, 0x5C, 0x60C, 0x61B, 0x61F, 0x640,
     0x64B, 0x64C, 0x64D, 0x64E, 0x64F, 0x650, 0x651, 0x652, 0x660, 0x661, 0x662, 0x663, 0x664,
     0x665, 0x666, 0x667, 0x668, 0x669, 0x66A, 0x66B, 0x66C, 0xFE80, 0xFE81, 0xFE82, 0xFE83, 0xFE84,
@@ -16,7 +16,7 @@ pub const A_0_KEYS: [u32; 161] = [
 ];
 
 // The class of each row.
-pub const A_0_CLASSES: [u8; 161] = [
+pub static A_0_CLASSES: [u8; 161] = [
     3, 3, 3, 3, 3, 3, 3, 3, 3, 3, 3, 4, 4, 4, 2, 1, 1, 1, 1, 1, 1, 1, 1, 5, 6, 7, 8, 9, 10, 11, 12,
     13, 14, 15, 15, 15, 16, 20, 20, 17, 17, 21, 21, 18, 18, 19, 19, 19, 19, 22, 22, 23, 23, 23, 23,
     24, 24, 25, 25, 25, 25, 26, 26, 26, 26, 27, 27, 27, 27, 28, 28, 28, 28, 29, 29, 29, 29, 30, 30,
@@ -26,11 +26,62 @@ pub const A_0_CLASSES: [u8; 161] = [
     51, 51, 55, 55, 53, 53, 54, 54, 52, 52,
 ];
 
-// What each class gives: one letter; two letters, the second times 65536; or 0, where the row is deleted. Class 0 is not read.
-pub const A_0_GIVES: [u32; 56] = [
-    0, 0, 0, 0, 0, 0x30, 0x31, 0x32, 0x33, 0x34, 0x35, 0x36, 0x37, 0x38, 0x39, 0, 0x621, 0x623,
-    0x625, 0x626, 0x622, 0x624, 0x627, 0x628, 0x629, 0x62A, 0x62B, 0x62C, 0x62D, 0x62E, 0x62F,
-    0x630, 0x631, 0x632, 0x633, 0x634, 0x635, 0x636, 0x637, 0x638, 0x639, 0x63A, 0x641, 0x642,
-    0x643, 0x644, 0x645, 0x646, 0x647, 0x648, 0x649, 0x64A, 0x6270644, 0x6230644, 0x6250644,
-    0x6220644,
+// What each class gives, in UTF-8; nothing where the row is deleted. Class 0 is not read.
+pub static A_0_GIVES: [&[u8]; 56] = [
+    b"",
+    b"",
+    b"",
+    b"",
+    b"",
+    b"0",
+    b"1",
+    b"2",
+    b"3",
+    b"4",
+    b"5",
+    b"6",
+    b"7",
+    b"8",
+    b"9",
+    b"",
+    b"\xD8\xA1",
+    b"\xD8\xA3",
+    b"\xD8\xA5",
+    b"\xD8\xA6",
+    b"\xD8\xA2",
+    b"\xD8\xA4",
+    b"\xD8\xA7",
+    b"\xD8\xA8",
+    b"\xD8\xA9",
+    b"\xD8\xAA",
+    b"\xD8\xAB",
+    b"\xD8\xAC",
+    b"\xD8\xAD",
+    b"\xD8\xAE",
+    b"\xD8\xAF",
+    b"\xD8\xB0",
+    b"\xD8\xB1",
+    b"\xD8\xB2",
+    b"\xD8\xB3",
+    b"\xD8\xB4",
+    b"\xD8\xB5",
+    b"\xD8\xB6",
+    b"\xD8\xB7",
+    b"\xD8\xB8",
+    b"\xD8\xB9",
+    b"\xD8\xBA",
+    b"\xD9\x81",
+    b"\xD9\x82",
+    b"\xD9\x83",
+    b"\xD9\x84",
+    b"\xD9\x85",
+    b"\xD9\x86",
+    b"\xD9\x87",
+    b"\xD9\x88",
+    b"\xD9\x89",
+    b"\xD9\x8A",
+    b"\xD9\x84\xD8\xA7",
+    b"\xD9\x84\xD8\xA3",
+    b"\xD9\x84\xD8\xA5",
+    b"\xD9\x84\xD8\xA2",
 ];

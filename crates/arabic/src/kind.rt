@@ -1,19 +1,17 @@
 // Item 1: the kind of a word, by its front and its number of letters.
-ghost use Rattle.std.specs.Prelude.{◌≡◌, take};
+ghost use Rattle.std.specs.Prelude.{◌≡◌};
 ghost use Rattle.definition.specs.Words.{Word};
 ghost use Rattle.definition.specs.Kind.{kind};
 ghost use Rattle.definition.specs.StepRow.{kind_check, step_row};
-ghost use Rattle.utf8.specs.Utf8.{Scalars, encode};
-ghost use Rattle.utf8.specs.Spelt.{Spelt};
+ghost use Rattle.utf8.specs.Spelt.{Encodes, Spelt};
 ghost use Rattle.arabic.specs.Kinds.{flags};
 
 use crate::tables;
-use crate::tried::least_letters;
+use crate::tried::{Searched, met};
 use snowball::among::find_among;
-use snowball::env::has_chars;
 
 // What a word can be, as the Rust's three flags.
-#[derive(Drop)]
+#[derive(Clone, Copy, Debug, PartialEq, Eq)]
 pub struct Kind {
     pub defined: bool,
     pub verb: bool,
@@ -34,45 +32,15 @@ impl Kind {
     };
 }
 
-// The row of the kind check's search, and the kind.
-#[derive(Drop)]
-pub struct KindFound {
-    pub row: usize,
-    pub kind: Kind,
-}
-
-// The row of A_3 that the word in front of the limit begins with, and its kind: defined where there is one and the word has enough
-// letters for its class.
-pub fn kind_of(text: &[u8], limit: usize) -> KindFound
-    requires { Spelt text.now limit }
-    ensures { (w : Word) → Scalars w → take limit text.now ≡ encode w → (result.kind ≡ flags (kind w)) × (result.row ≡ step_row kind_check w) }
+// The row of A_3 that the word begins with, and its kind: defined where there is one and the word has enough letters for its class.
+pub fn kind_of(text: &[u8]) -> Searched<Kind>
+    requires { Spelt text.now }
+    ensures { (w : Word) → Encodes text.now w → (result.outcome ≡ flags (kind w)) × (result.row ≡ step_row kind_check w) }
 {
-    let f = find_among(
-        text,
-        0,
-        limit,
-        &tables::A_3_ROWS,
-        &tables::A_3_LENS,
-        &tables::A_3_LINKS,
-        &tables::A_3_CLASSES,
-    );
-    let row = f.row;
-    let class = f.class;
-    if class == 0 {
-        return KindFound {
-            row,
-            kind: Kind::OPEN,
-        };
-    }
-    let least = least_letters(&[5, 4], class);
-    if has_chars(text, limit, least) {
-        return KindFound {
-            row,
-            kind: Kind::DEFINED,
-        };
-    }
-    KindFound {
-        row,
-        kind: Kind::OPEN,
+    let found = find_among(text, 0, text.len(), &tables::A_3);
+    let defined = met(text, &[5, 4], found.class);
+    Searched {
+        row: found.row,
+        outcome: if defined { Kind::DEFINED } else { Kind::OPEN },
     }
 }

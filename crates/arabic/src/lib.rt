@@ -1,4 +1,5 @@
 // The Rust's arabic.rs: the tables, the steps, and the stem on an environment.
+// What is called once on a word's way is marked inline(always): a call copies the environment.
 #![tactic(auto)]
 
 pub mod a_0;

@@ -6,171 +6,90 @@ ghost use Rattle.definition.specs.Fronts.{Fronting, prefix_step1, prefix_step2, 
 ghost use Rattle.definition.specs.StepRow.{of_front, step_row};
 ghost use Rattle.arabic.specs.Fronts.{Fronts, ReadyFront, ReadyStart, GivesFront};
 
-use crate::prefix_halves::{front_row, replace_front};
+use crate::prefix_halves::prefix_step;
 use crate::tables;
 use crate::tried::{Searched, Tried};
 use snowball::env::{Env, stands_at};
 
 // Only at the start of the text.
-pub fn r_Prefix_Step1(env: Env) -> Searched
+pub fn r_Prefix_Step1(env: Env) -> Searched<Tried>
     requires { ReadyStart env }
-    ensures { (w : Word) → Fronts env (started w) → GivesFront result.tried (apply prefix_step1 (started w)) × (result.row ≡ step_row (of_front prefix_step1) w) }
+    ensures { (w : Word) → Fronts env (started w) → GivesFront result.outcome (apply prefix_step1 (started w)) × (result.row ≡ step_row (of_front prefix_step1) w) }
 {
-    let cursor = env.cursor;
-    let limit = env.limit;
-    let f = front_row(
-        &env.current,
-        cursor,
-        limit,
-        &tables::A_4_ROWS,
-        &tables::A_4_LENS,
-        &tables::A_4_LINKS,
-        &tables::A_4_CLASSES,
+    prefix_step(
+        env,
+        &tables::A_4,
         &[4, 4, 4, 4, 4],
-    );
-    replace_front(
-        env,
-        f,
         &[
-            [0xD8, 0xA3, 0, 0, 0, 0],
-            [0xD8, 0xA2, 0, 0, 0, 0],
-            [0xD8, 0xA3, 0, 0, 0, 0],
-            [0xD8, 0xA7, 0, 0, 0, 0],
-            [0xD8, 0xA5, 0, 0, 0, 0],
+            b"\xD8\xA3",
+            b"\xD8\xA2",
+            b"\xD8\xA3",
+            b"\xD8\xA7",
+            b"\xD8\xA5",
         ],
-        &[2, 2, 2, 2, 2],
     )
 }
 
-pub fn r_Prefix_Step2(env: Env) -> Searched
+pub fn r_Prefix_Step2(env: Env) -> Searched<Tried>
     requires { ReadyFront env }
-    ensures { (w : Fronting) → Fronts env w → GivesFront result.tried (apply prefix_step2 w) × (result.row ≡ step_row (of_front prefix_step2) w.rest) }
+    ensures { (w : Fronting) → Fronts env w → GivesFront result.outcome (apply prefix_step2 w) × (result.row ≡ step_row (of_front prefix_step2) w.rest) }
 {
-    let cursor = env.cursor;
-    let limit = env.limit;
-    if stands_at(&env.current, cursor, limit, b"\xD9\x81\xD8\xA7") {
+    if stands_at(env.text(), env.cursor, b"\xD9\x81\xD8\xA7") {
         return Searched {
-            row: tables::A_5_ROWS.len(),
-            tried: Tried { found: false, env },
+            row: tables::A_5.rows.len(),
+            outcome: Err(env),
         };
     }
-    if stands_at(&env.current, cursor, limit, b"\xD9\x88\xD8\xA7") {
+    if stands_at(env.text(), env.cursor, b"\xD9\x88\xD8\xA7") {
         return Searched {
-            row: tables::A_5_ROWS.len(),
-            tried: Tried { found: false, env },
+            row: tables::A_5.rows.len(),
+            outcome: Err(env),
         };
     }
-    let f = front_row(
-        &env.current,
-        cursor,
-        limit,
-        &tables::A_5_ROWS,
-        &tables::A_5_LENS,
-        &tables::A_5_LINKS,
-        &tables::A_5_CLASSES,
-        &[4, 4],
-    );
-    replace_front(env, f, &[[0, 0, 0, 0, 0, 0], [0, 0, 0, 0, 0, 0]], &[0, 0])
+    prefix_step(env, &tables::A_5, &[4, 4], &[b"", b""])
 }
 
-pub fn r_Prefix_Step3a_Noun(env: Env) -> Searched
+pub fn r_Prefix_Step3a_Noun(env: Env) -> Searched<Tried>
     requires { ReadyFront env }
-    ensures { (w : Fronting) → Fronts env w → GivesFront result.tried (apply prefix_step3a_noun w) × (result.row ≡ step_row (of_front prefix_step3a_noun) w.rest) }
+    ensures { (w : Fronting) → Fronts env w → GivesFront result.outcome (apply prefix_step3a_noun w) × (result.row ≡ step_row (of_front prefix_step3a_noun) w.rest) }
 {
-    let cursor = env.cursor;
-    let limit = env.limit;
-    let f = front_row(
-        &env.current,
-        cursor,
-        limit,
-        &tables::A_6_ROWS,
-        &tables::A_6_LENS,
-        &tables::A_6_LINKS,
-        &tables::A_6_CLASSES,
-        &[6, 5],
-    );
-    replace_front(env, f, &[[0, 0, 0, 0, 0, 0], [0, 0, 0, 0, 0, 0]], &[0, 0])
+    prefix_step(env, &tables::A_6, &[6, 5], &[b"", b""])
 }
 
-pub fn r_Prefix_Step3b_Noun(env: Env) -> Searched
+pub fn r_Prefix_Step3b_Noun(env: Env) -> Searched<Tried>
     requires { ReadyFront env }
-    ensures { (w : Fronting) → Fronts env w → GivesFront result.tried (apply prefix_step3b_noun w) × (result.row ≡ step_row (of_front prefix_step3b_noun) w.rest) }
+    ensures { (w : Fronting) → Fronts env w → GivesFront result.outcome (apply prefix_step3b_noun w) × (result.row ≡ step_row (of_front prefix_step3b_noun) w.rest) }
 {
-    let cursor = env.cursor;
-    let limit = env.limit;
-    if stands_at(&env.current, cursor, limit, b"\xD8\xA8\xD8\xA7") {
+    if stands_at(env.text(), env.cursor, b"\xD8\xA8\xD8\xA7") {
         return Searched {
-            row: tables::A_7_ROWS.len(),
-            tried: Tried { found: false, env },
+            row: tables::A_7.rows.len(),
+            outcome: Err(env),
         };
     }
-    let f = front_row(
-        &env.current,
-        cursor,
-        limit,
-        &tables::A_7_ROWS,
-        &tables::A_7_LENS,
-        &tables::A_7_LINKS,
-        &tables::A_7_CLASSES,
+    prefix_step(
+        env,
+        &tables::A_7,
         &[4, 4, 4],
-    );
-    replace_front(
-        env,
-        f,
-        &[
-            [0, 0, 0, 0, 0, 0],
-            [0xD8, 0xA8, 0, 0, 0, 0],
-            [0xD9, 0x83, 0, 0, 0, 0],
-        ],
-        &[0, 2, 2],
+        &[b"", b"\xD8\xA8", b"\xD9\x83"],
     )
 }
 
-pub fn r_Prefix_Step3_Verb(env: Env) -> Searched
+pub fn r_Prefix_Step3_Verb(env: Env) -> Searched<Tried>
     requires { ReadyFront env }
-    ensures { (w : Fronting) → Fronts env w → GivesFront result.tried (apply prefix_step3_verb w) × (result.row ≡ step_row (of_front prefix_step3_verb) w.rest) }
+    ensures { (w : Fronting) → Fronts env w → GivesFront result.outcome (apply prefix_step3_verb w) × (result.row ≡ step_row (of_front prefix_step3_verb) w.rest) }
 {
-    let cursor = env.cursor;
-    let limit = env.limit;
-    let f = front_row(
-        &env.current,
-        cursor,
-        limit,
-        &tables::A_8_ROWS,
-        &tables::A_8_LENS,
-        &tables::A_8_LINKS,
-        &tables::A_8_CLASSES,
-        &[5, 5, 5, 5],
-    );
-    replace_front(
+    prefix_step(
         env,
-        f,
-        &[
-            [0xD9, 0x8A, 0, 0, 0, 0],
-            [0xD8, 0xAA, 0, 0, 0, 0],
-            [0xD9, 0x86, 0, 0, 0, 0],
-            [0xD8, 0xA3, 0, 0, 0, 0],
-        ],
-        &[2, 2, 2, 2],
+        &tables::A_8,
+        &[5, 5, 5, 5],
+        &[b"\xD9\x8A", b"\xD8\xAA", b"\xD9\x86", b"\xD8\xA3"],
     )
 }
 
 // What r_Prefix_Step4_Verb of `context` does to the text; the flags are stored there.
-pub fn replace_Prefix_Step4_Verb(env: Env) -> Searched
+pub fn replace_Prefix_Step4_Verb(env: Env) -> Searched<Tried>
     requires { ReadyFront env }
-    ensures { (w : Fronting) → Fronts env w → GivesFront result.tried (apply prefix_step4_verb w) × (result.row ≡ step_row (of_front prefix_step4_verb) w.rest) }
+    ensures { (w : Fronting) → Fronts env w → GivesFront result.outcome (apply prefix_step4_verb w) × (result.row ≡ step_row (of_front prefix_step4_verb) w.rest) }
 {
-    let cursor = env.cursor;
-    let limit = env.limit;
-    let f = front_row(
-        &env.current,
-        cursor,
-        limit,
-        &tables::A_9_ROWS,
-        &tables::A_9_LENS,
-        &tables::A_9_LINKS,
-        &tables::A_9_CLASSES,
-        &[5],
-    );
-    replace_front(env, f, &[[0xD8, 0xA7, 0xD8, 0xB3, 0xD8, 0xAA]], &[6])
+    prefix_step(env, &tables::A_9, &[5], &[b"\xD8\xA7\xD8\xB3\xD8\xAA"])
 }

@@ -9,6 +9,7 @@ ghost use Rattle.definition.specs.Finish.{finish};
 ghost use Rattle.definition.specs.Stem.{cutting, stem_of, stem, chain};
 ghost use Rattle.snowball.specs.Chars.{started};
 ghost use Rattle.snowball.specs.Stands.{Stands};
+ghost use Rattle.arabic.specs.Contexts.{OneKind};
 ghost use Rattle.arabic.specs.Kinds.{kind_by_verb, kind_of};
 ghost use Rattle.arabic.specs.Texts.{longest_word};
 
@@ -16,73 +17,69 @@ use crate::context::{Context, checked};
 use crate::normalize::{r_Normalize_post, r_Normalize_pre};
 use crate::prefix_nest::prefixes;
 use crate::suffix_nest::suffixes;
-use crate::tried::Counted;
+use crate::tried::{Counted, left_by};
 use snowball::env::{Env, count_chars};
 
-// Item 3: the endings, backward from the end of the text, counted from 0. The cursor then goes back to the front. The two flags are
-// those of one kind.
-fn cut_endings(env: Env, b_is_defined: bool, b_is_verb: bool) -> Counted
-    requires { ((w : Word) × Stands env (started w)) × (kind_by_verb b_is_verb ≡ kind_of b_is_defined) }
+// Item 3: the endings, backward from the end of the text, counted from 0. The cursor then goes back to the front.
+#[inline(always)]
+fn cut_endings(mut env: Env, context: Context) -> Counted
+    requires { ((w : Word) × Stands env (started w)) × OneKind context }
     ensures { (w : Word) → Stands env (started w)
-        → Stands result.env (started (maqsura_if_failed (endings (kind_of b_is_defined) w) (after (endings (kind_of b_is_defined) w)).text))
-        × (result.endings ≡ length (after (endings (kind_of b_is_defined) w)).cuts) }
+        → Stands result.env (started (maqsura_if_failed (endings (kind_of context.b_is_defined) w) (after (endings (kind_of context.b_is_defined) w)).text))
+        × (result.endings ≡ length (after (endings (kind_of context.b_is_defined) w)).cuts) }
 {
-    let mut e = env;
-    e.endings = 0;
-    e.limit_backward = e.cursor;
-    e.cursor = e.limit;
-    let c = suffixes(e, b_is_defined, b_is_verb);
-    let endings = c.endings;
-    let mut x = c.env;
-    x.cursor = x.limit_backward;
-    Counted { endings, env: x }
+    env.endings = 0;
+    env.limit_backward = env.cursor;
+    env.cursor = env.limit;
+    let mut cut = suffixes(env, context);
+    cut.env.cursor = cut.env.limit_backward;
+    cut
 }
 
 // Item 4: the fronts. The cursor then goes back to the front.
+#[inline(always)]
 fn change_front(env: Env, context: Context) -> Env
     requires { (w : Word) × Stands env (started w) }
     ensures { (w : Word) → Stands env (started w) → Stands result (started (text (fronts (kind_by_verb context.b_is_verb) w))) }
 {
     let cursor = env.cursor;
-    let t = prefixes(env, context);
-    let mut x = t.env;
-    x.cursor = cursor;
-    x
+    let mut changed = left_by(prefixes(env, context));
+    changed.cursor = cursor;
+    changed
 }
 
 // Item 5, with as many turns as the text has letters.
+#[inline(always)]
 pub fn finish_letters(env: Env) -> Env
     requires { (w : Word) × Stands env (started w) }
     ensures { (w : Word) → Stands env (started w) → Stands result (started (finish w)) }
 {
-    let limit = env.limit;
-    let i_word_len = count_chars(&env.current, limit);
+    let i_word_len = count_chars(env.text());
     r_Normalize_post(env, i_word_len)
 }
 
-// Items 2 to 5, for a word of up to 255 bytes whose kind is known: the flags are those of one kind.
+// Items 2 to 5, for a word of up to 255 bytes whose kind is known.
+#[inline(always)]
 fn stem_of(env: Env, context: Context) -> Counted
-    requires { ((w : Word) × Stands env (started w)) × (env.limit ≤ longest_word) × (kind_by_verb context.b_is_verb ≡ kind_of context.b_is_defined) }
+    requires { ((w : Word) × Stands env (started w)) × (env.limit ≤ longest_word) × OneKind context }
     ensures { (w : Word) → Stands env (started w) → Stands result.env (started (stem_of (kind_of context.b_is_defined) (normalise w)))
         × (result.endings ≡ length (cutting (kind_of context.b_is_defined) (normalise w)).cuts) }
 {
-    let n = r_Normalize_pre(env);
-    let b_is_defined = context.b_is_defined;
-    let b_is_verb = context.b_is_verb;
-    let c = cut_endings(n, b_is_defined, b_is_verb);
-    let endings = c.endings;
-    let s = c.env;
-    let p = change_front(s, context);
-    let f = finish_letters(p);
-    Counted { endings, env: f }
+    let normalised = r_Normalize_pre(env);
+    let cut = cut_endings(normalised, context);
+    let changed = change_front(cut.env, context);
+    Counted {
+        endings: cut.endings,
+        env: finish_letters(changed),
+    }
 }
 
 // The Rust's stem, on a new environment for a word of up to 255 bytes; and how many endings were cut.
+#[inline(always)]
 pub fn stem(env: Env) -> Counted
     requires { ((w : Word) × Stands env (started w)) × (env.limit ≤ longest_word) }
     ensures { (w : Word) → Stands env (started w) → Stands result.env (started (stem w)) × (result.endings ≡ length (chain w)) }
 {
-    let limit = env.limit;
-    let c = checked(&env.current, limit);
-    stem_of(env, c.context)
+    let context = checked(env.text()).outcome;
+    stem_of(env, context)
 }

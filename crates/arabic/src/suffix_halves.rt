@@ -1,76 +1,64 @@
 // The two halves of a step that cuts an ending: the row and where the ending begins, read off the text, and the cut.
-ghost use Rattle.std.specs.Prelude.{◌≡◌, true, ◌≤◌, length, take, T};
+ghost use Rattle.std.specs.Prelude.{◌≡◌, ◌≤◌, length, IfSome};
 ghost use Rattle.definition.specs.Words.{Word};
 ghost use Rattle.definition.specs.Endings.{SuffixStep, suffix, Cutting, cut};
 ghost use Rattle.definition.specs.StepRow.{of_ending, step_row};
-ghost use Rattle.utf8.specs.Utf8.{Scalars, encode};
-ghost use Rattle.snowball.specs.Rows.{keys_back, well_formed, rows_of, byte_table, plain};
-ghost use Rattle.utf8.specs.Spelt.{Spelt};
+ghost use Rattle.utf8.specs.Spelt.{Encodes, Spelt};
 ghost use Rattle.arabic.specs.Endings.{Ends, Ready, Gives, TakesEnding};
+ghost use Rattle.arabic.specs.Tried.{IsRule};
 
-use crate::tried::{Searched, Tried, least_letters};
+use crate::tried::{Searched, Tried, met};
 use snowball::among::find_among_b;
-use snowball::env::{Env, has_chars};
+use snowball::env::Env;
+use snowball::tables::{Among, Backward};
 
-// The row of a step's search, and where the ending begins that the step takes; the text's end where it takes none.
-#[derive(Drop)]
-pub struct FoundEnding {
-    pub row: usize,
-    pub place: usize,
-}
-
-// What a step with this table and these guards finds at the end of the text.
-pub fn ending(
-    text: &[u8],
-    limit: usize,
-    rows: &[[u8; 6]],
-    lens: &[u8],
-    links: &[u8],
-    classes: &[u8],
-    guards: &[u8],
-) -> FoundEnding
-    requires spelt { Spelt text.now limit }
-    requires table { T (well_formed (keys_back rows.now lens.now) lens.now links.now) × (length classes.now ≡ length rows.now) }
-    ensures place_le_limit { result.place ≤ limit }
-    ensures takes_ending { (s : SuffixStep) → rows_of rows.now lens.now classes.now ≡ byte_table (suffix s).table
-        → plain (suffix s).table ≡ true → guards.now ≡ (suffix s).guards
-        → (w : Word) → Scalars w → take limit text.now ≡ encode w → TakesEnding s w limit result }
+// What a step with this table and these guards finds at the end of the text: the row of its search, and where the ending begins that it takes.
+pub fn ending(text: &[u8], table: &Among<'_, Backward>, guards: &[u8]) -> Searched<Option<usize>>
+    requires { Spelt text.now }
+    ensures within { IfSome result.outcome (λ place. place ≤ length text.now) }
+    ensures takes_ending { (s : SuffixStep) → IsRule (suffix s) table.now.rows.now table.now.lens.now table.now.classes.now guards.now
+        → (w : Word) → Encodes text.now w → TakesEnding s w (length text.now) result }
 {
-    let f = find_among_b(text, limit, 0, rows, lens, links, classes);
-    let row = f.row;
-    let class = f.class;
-    if class == 0 {
-        return FoundEnding { row, place: limit };
-    }
-    let least = least_letters(guards, class);
-    if has_chars(text, limit, least) {
-        return FoundEnding {
-            row,
-            place: f.cursor,
-        };
-    }
-    FoundEnding { row, place: limit }
-}
-
-// Deletes the ending that was found, and counts it: what slice_del does at the end of the text, where no byte moves. Where it begins at
-// that end the step fails, and the text is as it was.
-pub fn cut_ending(env: Env, f: FoundEnding) -> Searched
-    requires { Ready env × (f.place ≤ env.limit) }
-    ensures { (s : SuffixStep) (v : Cutting) → Ends env v → TakesEnding s v.text env.limit f
-        → Gives result.tried (cut s v) × (result.row ≡ step_row (of_ending s) v.text) }
-{
-    let place = f.place;
-    let found = place != env.limit;
-    let mut e = env;
-    if found {
-        e.endings += 1;
-    }
-    e.ket = e.limit;
-    e.bra = place;
-    e.limit = place;
-    e.cursor = place;
+    let found = find_among_b(text, text.len(), 0, table);
+    let taken = met(text, guards, found.class);
     Searched {
-        row: f.row,
-        tried: Tried { found, env: e },
+        row: found.row,
+        outcome: taken.then_some(found.cursor),
     }
+}
+
+// Deletes the ending that was found, and counts it: what slice_del does at the end of the text, where no byte moves. Where there is none
+// the step fails, and the environment is as it was.
+pub fn cut_ending(mut env: Env, found: Searched<Option<usize>>) -> Searched<Tried>
+    requires { Ready env × IfSome found.outcome (λ place. place ≤ env.limit) }
+    ensures { (s : SuffixStep) (v : Cutting) → Ends env v → TakesEnding s v.text env.limit found
+        → Gives result.outcome (cut s v) × (result.row ≡ step_row (of_ending s) v.text) }
+{
+    let row = found.row;
+    let Some(place) = found.outcome else {
+        return Searched {
+            row,
+            outcome: Err(env),
+        };
+    };
+    env.endings += 1;
+    env.ket = env.limit;
+    env.bra = place;
+    env.limit = place;
+    env.cursor = place;
+    Searched {
+        row,
+        outcome: Ok(env),
+    }
+}
+
+// A step that cuts, with this table and these guards.
+#[inline(always)]
+pub fn suffix_step(env: Env, table: &Among<'_, Backward>, guards: &[u8]) -> Searched<Tried>
+    requires { Ready env }
+    ensures { (s : SuffixStep) → IsRule (suffix s) table.now.rows.now table.now.lens.now table.now.classes.now guards.now
+        → (v : Cutting) → Ends env v → Gives result.outcome (cut s v) × (result.row ≡ step_row (of_ending s) v.text) }
+{
+    let found = ending(env.text(), table, guards);
+    cut_ending(env, found)
 }

@@ -1,26 +1,21 @@
-// What several steps use: the answers of steps, the least number of letters by class, and the alternative that always succeeds.
-ghost use Rattle.std.specs.Prelude.{◌≡◌, true};
-ghost use Rattle.definition.specs.Search.{least_letters};
-ghost use Rattle.definition.specs.Tries.{Try, if_failed, nothing};
-ghost use Rattle.definition.specs.Endings.{Cutting};
-ghost use Rattle.arabic.specs.Endings.{Gives, Given};
+// What several steps use: the answers of steps, and the least number of letters by class.
+ghost use Rattle.std.specs.Prelude.{◌≡◌, length};
+ghost use Rattle.definition.specs.Words.{Word};
+ghost use Rattle.definition.specs.Search.{least_letters, met};
+ghost use Rattle.utf8.specs.Utf8.{encode};
+ghost use Rattle.snowball.specs.Stands.{handed_back};
 
-use snowball::among::wide;
-use snowball::env::Env;
+use snowball::env::{Env, has_chars};
 
-// The environment after a step, and whether the step succeeded.
+// The environment after a step: Ok where the step succeeded, Err where it failed. What a step did before it failed stays done.
+pub type Tried = Result<Env, Env>;
+
+// What is made of one search: the number of the row that the search found, and the outcome. With no row it is the number of rows, also
+// where a step ended before it searched.
 #[derive(Drop)]
-pub struct Tried {
-    pub found: bool,
-    pub env: Env,
-}
-
-// The answer of a step that makes one search: the number of the row that the search found, and what the step did. With no row it is the
-// number of rows, also where the step ended before it searched.
-#[derive(Drop)]
-pub struct Searched {
+pub struct Searched<T> {
     pub row: usize,
-    pub tried: Tried,
+    pub outcome: T,
 }
 
 // An environment, and how many endings were cut on the way to it. What the environment itself counts has no meaning any more.
@@ -34,25 +29,26 @@ pub struct Counted {
 pub fn least_letters(guards: &[u8], class: u8) -> usize
     ensures { result ≡ least_letters guards.now class }
 {
-    if class == 0 {
-        return 0;
-    }
-    let k = wide(class - 1);
-    if k >= guards.len() {
-        return 0;
-    }
-    wide(guards[k])
+    class
+        .checked_sub(1)
+        .and_then(|k| guards.get(usize::from(k)))
+        .map_or(0, |least| usize::from(*least))
 }
 
-// The last alternative, which always succeeds: the end of the noun's `try`, and in place of the Rust's `next` behind the verb's
-// Step1 (docs/DECISIONS.md, 18).
-pub fn or_nothing(t: Tried) -> Tried
-    requires { Given t }
-    ensures { (result.found ≡ true) × ((y : Try Cutting) → Gives t y → Gives result (if_failed y nothing)) }
+// Whether a text has enough letters for a class. Class 0, which stands for no row, has never enough.
+pub fn met(text: &[u8], guards: &[u8], class: u8) -> bool
+    ensures { (w : Word) → text.now ≡ encode w → result ≡ met guards.now class (length w) }
 {
-    let x = t.env;
-    Tried {
-        found: true,
-        env: x,
+    class != 0 && has_chars(text, least_letters(guards, class))
+}
+
+// The environment that a step leaves, whether it succeeds or not. One arm for both is slower (docs/DECISIONS.md, 33).
+#[inline(always)]
+pub fn left_by(tried: Tried) -> Env
+    ensures { result ≡ handed_back tried }
+{
+    match tried {
+        Ok(env) => env,
+        Err(env) => env,
     }
 }

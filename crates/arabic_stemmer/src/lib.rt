@@ -6,7 +6,10 @@ ghost use Rattle.definition.specs.Normal.{normalise};
 ghost use Rattle.definition.specs.Finish.{finish};
 ghost use Rattle.definition.specs.Stem.{stem};
 ghost use Rattle.stemmer.specs.Entries.{enough_room, bytes_of, fitting, answer, out_after, kind_answer, Demand3After, FewEndingsOf, version, stem_entry};
-ghost use Rattle.arabic_stemmer.specs.Interface.{told, told_stem, number, told_kind};
+ghost use Rattle.arabic_stemmer.specs.Interface.{told, told_stem, told_kind};
+
+use arabic::kind::Kind;
+use stemmer::{BadWord, Refusal, Stem};
 
 // Code 0 and the number of bytes written, or a refusal's code and 0.
 #[repr(C)]
@@ -33,21 +36,49 @@ pub struct KindAnswer {
     pub kind: u32,
 }
 
-fn answer_of(a: stemmer::Answer) -> Answer
-    ensures { result ≡ told a }
-{
-    match a {
-        stemmer::Answer::Done(count) => Answer { code: 0, count },
-        stemmer::Answer::TooLong => Answer { code: 1, count: 0 },
-        stemmer::Answer::NotWellFormed => Answer { code: 2, count: 0 },
-        stemmer::Answer::NoRoom => Answer { code: 3, count: 0 },
+impl From<Result<usize, Refusal>> for Answer {
+    ghost from_gives = { λ given answer. answer ≡ told given };
+
+    fn from(given: Result<usize, Refusal>) -> Answer {
+        match given {
+            Ok(count) => Answer { code: 0, count },
+            Err(refusal) => Answer {
+                code: refusal.code(),
+                count: 0,
+            },
+        }
     }
 }
 
-fn number_of(defined: bool) -> u32
-    ensures { result ≡ number defined }
-{
-    if defined { 1 } else { 0 }
+impl From<Result<Stem, Refusal>> for StemAnswer {
+    ghost from_gives = { λ given answer. answer ≡ told_stem given };
+
+    fn from(given: Result<Stem, Refusal>) -> StemAnswer {
+        let endings = given.map_or(0, |stem| stem.endings);
+        let answer = Answer::from(given.map(|stem| stem.count));
+        StemAnswer {
+            code: answer.code,
+            endings,
+            count: answer.count,
+        }
+    }
+}
+
+impl From<Result<Kind, BadWord>> for KindAnswer {
+    ghost from_gives = { λ given answer. answer ≡ told_kind given };
+
+    fn from(given: Result<Kind, BadWord>) -> KindAnswer {
+        match given {
+            Ok(kind) => KindAnswer {
+                code: 0,
+                kind: u32::from(kind.defined),
+            },
+            Err(word) => KindAnswer {
+                code: word.code(),
+                kind: 0,
+            },
+        }
+    }
 }
 
 // The stem of the word, and how many endings were cut.
@@ -59,15 +90,7 @@ pub extern "C" fn arabic_stemmer_stem(word: &[u8], out: &mut [u8]) -> StemAnswer
     ensures few_endings_of { FewEndingsOf word.now result.endings }
     ensures out_len_bound { result.code ≡ 3 → length out.old < enough_room }
 {
-    let s = stemmer::stem(word, out);
-    let endings = s.endings;
-    let given = s.answer;
-    let a = answer_of(given);
-    StemAnswer {
-        code: a.code,
-        endings,
-        count: a.count,
-    }
+    stemmer::stem(word, out).into()
 }
 
 // The word normalised.
@@ -77,8 +100,7 @@ pub extern "C" fn arabic_stemmer_normalise(word: &[u8], out: &mut [u8]) -> Answe
     ensures out_after { out.new ≡ out_after (answer normalise word.now (length out.old)) (bytes_of normalise word.now) out.old }
     ensures out_len_bound { result.code ≡ 3 → length out.old < enough_room }
 {
-    let a = stemmer::normalise(word, out);
-    answer_of(a)
+    stemmer::normalise(word, out).into()
 }
 
 // The word finished.
@@ -88,8 +110,7 @@ pub extern "C" fn arabic_stemmer_finish(word: &[u8], out: &mut [u8]) -> Answer
     ensures out_after { out.new ≡ out_after (answer finish word.now (length out.old)) (bytes_of finish word.now) out.old }
     ensures out_len_bound { result.code ≡ 3 → length out.old < enough_room }
 {
-    let a = stemmer::finish(word, out);
-    answer_of(a)
+    stemmer::finish(word, out).into()
 }
 
 // The kind of the word.
@@ -97,12 +118,7 @@ pub extern "C" fn arabic_stemmer_finish(word: &[u8], out: &mut [u8]) -> Answer
 pub extern "C" fn arabic_stemmer_kind(word: &[u8]) -> KindAnswer
     ensures { result ≡ told_kind (kind_answer word.now) }
 {
-    let a = stemmer::kind(word);
-    let kind = a.kind;
-    KindAnswer {
-        code: a.code,
-        kind: number_of(kind.defined),
-    }
+    stemmer::kind(word).into()
 }
 
 // The version's text, with the edition that the stems are those of.
@@ -111,6 +127,5 @@ pub extern "C" fn arabic_stemmer_version(out: &mut [u8]) -> Answer
     ensures value { result ≡ told (fitting (length version) (length out.old)) }
     ensures out_after { out.new ≡ out_after (fitting (length version) (length out.old)) version out.old }
 {
-    let a = stemmer::version(out);
-    answer_of(a)
+    stemmer::version(out).into()
 }

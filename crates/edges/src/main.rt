@@ -2,12 +2,13 @@
 // it, in hexadecimal. Before the call the byte at i is i % 251.
 #![tactic(auto)]
 
-ghost use Rattle.std.specs.Prelude.{◌≡◌, ◌≤◌, length};
-ghost use Rattle.edges.specs.Sizes.{space, largest};
+ghost use Rattle.std.specs.Prelude.{◌≡◌, ◌≤◌};
+ghost use Rattle.edges.specs.declared.TheConstants.{LARGEST};
 
-use std::io;
+use arabic::kind::Kind;
 use std::io::Write;
-use stemmer::{Answer, LONGEST, ROOM, StemAnswer};
+use std::{array, fmt, io};
+use stemmer::{BadWord, LONGEST, ROOM, Refusal, Stem};
 
 // The largest output that is lent, and how many bytes behind an output are printed with it.
 const LARGEST: usize = 396;
@@ -16,207 +17,325 @@ const BEHIND: usize = 4;
 
 const SPACE: usize = LARGEST + BEHIND;
 
-fn write_bytes(output: &mut impl Write, bytes: &[u8]) -> io::Result<()> {
-    for byte in bytes {
-        write!(output, "{byte:02x}")?;
-    }
-    Ok(())
-}
+// Bytes in hexadecimal.
+#[derive(Clone, Copy)]
+struct Hex<'a>(&'a [u8]);
 
-fn write_answer(output: &mut impl Write, answer: Answer) -> io::Result<()> {
-    match answer {
-        Answer::Done(count) => write!(output, "0 {count}"),
-        Answer::TooLong => write!(output, "1 0"),
-        Answer::NotWellFormed => write!(output, "2 0"),
-        Answer::NoRoom => write!(output, "3 0"),
+impl fmt::Display for Hex<'_> {
+    fn fmt<W: fmt::Write>(&self, f: &mut fmt::Formatter<W>) -> fmt::Result {
+        for byte in self.0 {
+            write!(f, "{byte:02x}")?;
+        }
+        Ok(())
     }
 }
 
-fn write_stem_answer(output: &mut impl Write, found: StemAnswer) -> io::Result<()> {
-    let endings = found.endings;
-    write_answer(output, found.answer)?;
-    write!(output, " {endings}")
-}
+// The code and the count of an answer.
+#[derive(Clone, Copy)]
+struct Counted(Result<usize, Refusal>);
 
-// An output before a call, with the bytes behind it: no two neighbours are alike, and no other part of it begins as the front does.
-fn filled() -> [u8; SPACE]
-    ensures { space ≡ length result }
-{
-    let mut out = [0u8; SPACE];
-    for i in 0..SPACE {
-        out[i] = (i % 251) as u8;
+impl fmt::Display for Counted {
+    fn fmt<W: fmt::Write>(&self, f: &mut fmt::Formatter<W>) -> fmt::Result {
+        match self.0 {
+            Ok(count) => write!(f, "0 {count}"),
+            Err(refusal) => write!(f, "{} 0", refusal.code()),
+        }
     }
-    out
 }
 
-// The first room bytes of out, and those behind them.
-fn write_rest(output: &mut impl Write, out: &[u8; SPACE], room: usize) -> io::Result<()>
-    requires { room ≤ largest }
-{
-    write!(output, " ")?;
-    write_bytes(output, &out[..room + BEHIND])?;
-    writeln!(output)
+// The code and the count of the stem entry's answer, and the number of endings.
+#[derive(Clone, Copy)]
+struct Stemmed(Result<Stem, Refusal>);
+
+impl fmt::Display for Stemmed {
+    fn fmt<W: fmt::Write>(&self, f: &mut fmt::Formatter<W>) -> fmt::Result {
+        match self.0 {
+            Ok(Stem { count, endings }) => write!(f, "0 {count} {endings}"),
+            Err(refusal) => write!(f, "{} 0 0", refusal.code()),
+        }
+    }
 }
 
-fn stem(output: &mut impl Write, name: &str, word: &[u8], room: usize) -> io::Result<()>
-    requires { room ≤ largest }
+// The code of the kind entry's answer, and the kind, which is open under a refusal.
+#[derive(Clone, Copy)]
+struct Told(Result<Kind, BadWord>);
+
+impl fmt::Display for Told {
+    fn fmt<W: fmt::Write>(&self, f: &mut fmt::Formatter<W>) -> fmt::Result {
+        match self.0 {
+            Ok(kind) if kind.defined => f.write_str("0 defined"),
+            Ok(_) => f.write_str("0 open"),
+            Err(refusal) => write!(f, "{} open", refusal.code()),
+        }
+    }
+}
+
+// An output of room bytes that an entry is lent, with those behind it.
+#[derive(Drop)]
+struct Lent {
+    bytes: [u8; SPACE],
+    room: usize,
+    ghost within: { room ≤ LARGEST },
+}
+
+impl Lent {
+    // The output before a call: no two neighbours are alike, and no other part of it begins as the front does.
+    fn new(room: usize) -> Lent
+        requires { room ≤ LARGEST }
+        ensures { result.room ≡ room }
+    {
+        Lent {
+            bytes: array::from_fn(|i| (i % 251) as u8),
+            room,
+        }
+    }
+}
+
+// Its room bytes and those behind them.
+impl fmt::Display for Lent {
+    fn fmt<W: fmt::Write>(&self, f: &mut fmt::Formatter<W>) -> fmt::Result {
+        Hex(&self.bytes[..self.room + BEHIND]).fmt(f)
+    }
+}
+
+// A line: the name, what call writes of its answer, and the output afterwards.
+fn line<W: Write, F: FnOnce(&mut W, &mut [u8]) -> io::Result<()>>(
+    output: &mut W,
+    name: &str,
+    mut lent: Lent,
+    call: F,
+) -> io::Result<()>
+    requires { F.IsAlwaysCallable call }
 {
-    let mut out = filled();
-    let found = stemmer::stem(word, &mut out[..room]);
     write!(output, "{name}")?;
-    write_stem_answer(output, found)?;
-    write_rest(output, &out, room)
+    let room = lent.room;
+    call(output, &mut lent.bytes[..room])?;
+    writeln!(output, " {lent}")
 }
 
-fn normalise(output: &mut impl Write, name: &str, word: &[u8], room: usize) -> io::Result<()>
-    requires { room ≤ largest }
-{
-    let mut out = filled();
-    let answer = stemmer::normalise(word, &mut out[..room]);
-    write!(output, "{name}")?;
-    write_answer(output, answer)?;
-    write_rest(output, &out, room)
+fn stem(output: &mut impl Write, name: &str, word: &[u8], lent: Lent) -> io::Result<()> {
+    line(
+        output,
+        name,
+        lent,
+        |output, out| write!(output, "{}", Stemmed(stemmer::stem(word, out))),
+    )
 }
 
-fn finish(output: &mut impl Write, name: &str, word: &[u8], room: usize) -> io::Result<()>
-    requires { room ≤ largest }
+// A line of an entry that answers a count.
+fn counted_line<W: Write, F: FnOnce(&[u8], &mut [u8]) -> Result<usize, Refusal>>(
+    output: &mut W,
+    name: &str,
+    word: &[u8],
+    lent: Lent,
+    entry: F,
+) -> io::Result<()>
+    requires { F.IsAlwaysCallable entry }
 {
-    let mut out = filled();
-    let answer = stemmer::finish(word, &mut out[..room]);
-    write!(output, "{name}")?;
-    write_answer(output, answer)?;
-    write_rest(output, &out, room)
+    line(
+        output,
+        name,
+        lent,
+        |output, out| write!(output, "{}", Counted(entry(word, out))),
+    )
+}
+
+fn normalise(output: &mut impl Write, name: &str, word: &[u8], lent: Lent) -> io::Result<()> {
+    counted_line(output, name, word, lent, stemmer::normalise)
+}
+
+fn finish(output: &mut impl Write, name: &str, word: &[u8], lent: Lent) -> io::Result<()> {
+    counted_line(output, name, word, lent, stemmer::finish)
 }
 
 // The part that is handed back, in place of code and count, and then the output.
-fn stem_part(output: &mut impl Write, name: &str, word: &[u8], room: usize) -> io::Result<()>
-    requires { room ≤ largest }
-{
-    let mut out = filled();
-    let part = stemmer::stem_part(word, &mut out[..room]);
-    write!(output, "{name}[")?;
-    write_bytes(output, part)?;
-    write!(output, "]")?;
-    write_rest(output, &out, room)
+fn stem_part(output: &mut impl Write, name: &str, word: &[u8], lent: Lent) -> io::Result<()> {
+    line(
+        output,
+        name,
+        lent,
+        |output, out| write!(output, "[{}]", Hex(stemmer::stem_part(word, out))),
+    )
 }
 
 fn kind(output: &mut impl Write, name: &str, word: &[u8]) -> io::Result<()> {
-    let found = stemmer::kind(word);
-    let code = found.code;
-    if found.kind.defined {
-        return writeln!(output, "{name}{code} defined");
-    }
-    writeln!(output, "{name}{code} open")
+    writeln!(output, "{name}{}", Told(stemmer::kind(word)))
 }
 
 // 85 times U+FEFB.
 fn ligatures() -> [u8; LONGEST] {
-    let mut word = [0xBBu8; LONGEST];
-    for i in 0..85 {
-        word[3 * i] = 0xEF;
-    }
-    word
+    array::from_fn(|i| "\u{FEFB}".as_bytes()[i % 3])
 }
 
 // Words over 255 bytes.
 fn too_long(output: &mut impl Write) -> io::Result<()> {
     let latin = [b'a'; LONGEST + 1];
-    stem(output, "stem, 255 bytes of a: ", &latin[..LONGEST], LONGEST)?;
-    stem(output, "stem, 256 bytes of a: ", &latin, 8)?;
-    normalise(output, "normalise, 256 bytes of a: ", &latin, 8)?;
-    finish(output, "finish, 256 bytes of a: ", &latin, 8)?;
+    stem(
+        output,
+        "stem, 255 bytes of a: ",
+        &latin[..LONGEST],
+        Lent::new(LONGEST),
+    )?;
+    stem(output, "stem, 256 bytes of a: ", &latin, Lent::new(8))?;
+    normalise(output, "normalise, 256 bytes of a: ", &latin, Lent::new(8))?;
+    finish(output, "finish, 256 bytes of a: ", &latin, Lent::new(8))?;
     kind(output, "kind, 255 bytes of a: ", &latin[..LONGEST])?;
     kind(output, "kind, 256 bytes of a: ", &latin)?;
-    stem_part(output, "part, 256 bytes of a: ", &latin, 8)
+    stem_part(output, "part, 256 bytes of a: ", &latin, Lent::new(8))
 }
 
 // Words that grow.
 fn growing(output: &mut impl Write) -> io::Result<()> {
     let word = ligatures();
-    normalise(output, "normalise, 85 times FEFB: ", &word, ROOM)?;
+    normalise(output, "normalise, 85 times FEFB: ", &word, Lent::new(ROOM))?;
     normalise(
         output,
         "normalise, 85 times FEFB, one byte short: ",
         &word,
-        ROOM - 1,
+        Lent::new(ROOM - 1),
     )
 }
 
 // Bytes that are not well formed.
 fn not_well_formed(output: &mut impl Write) -> io::Result<()> {
-    stem(output, "stem, C0 80: ", b"\xC0\x80", 8)?;
-    stem(output, "stem, ED A0 80: ", b"\xED\xA0\x80", 8)?;
-    stem(output, "stem, ED A0 80, no room: ", b"\xED\xA0\x80", 0)?;
-    normalise(output, "normalise, C0 80: ", b"\xC0\x80", 8)?;
-    finish(output, "finish, C0 80: ", b"\xC0\x80", 8)?;
+    stem(output, "stem, C0 80: ", b"\xC0\x80", Lent::new(8))?;
+    stem(output, "stem, ED A0 80: ", b"\xED\xA0\x80", Lent::new(8))?;
+    stem(
+        output,
+        "stem, ED A0 80, no room: ",
+        b"\xED\xA0\x80",
+        Lent::new(0),
+    )?;
+    normalise(output, "normalise, C0 80: ", b"\xC0\x80", Lent::new(8))?;
+    finish(output, "finish, C0 80: ", b"\xC0\x80", Lent::new(8))?;
     kind(output, "kind, C0 80: ", b"\xC0\x80")?;
-    stem_part(output, "part, C0 80: ", b"\xC0\x80", 8)
+    stem_part(output, "part, C0 80: ", b"\xC0\x80", Lent::new(8))
 }
 
 // Results that just fit, or do not.
 fn rooms(output: &mut impl Write, word: &[u8]) -> io::Result<()> {
-    stem(output, "stem of 8 bytes, room for 8: ", word, 8)?;
-    stem(output, "stem of 8 bytes, room for 7: ", word, 7)?;
-    stem(output, "stem of 8 bytes, room for 16: ", word, 16)?;
-    normalise(output, "normalise, room for 12: ", word, 12)?;
-    normalise(output, "normalise, room for 11: ", word, 11)?;
-    finish(output, "finish, 0623, room for 2: ", b"\xD8\xA3", 2)?;
-    finish(output, "finish, 0623, room for 1: ", b"\xD8\xA3", 1)?;
+    stem(output, "stem of 8 bytes, room for 8: ", word, Lent::new(8))?;
+    stem(output, "stem of 8 bytes, room for 7: ", word, Lent::new(7))?;
+    stem(
+        output,
+        "stem of 8 bytes, room for 16: ",
+        word,
+        Lent::new(16),
+    )?;
+    normalise(output, "normalise, room for 12: ", word, Lent::new(12))?;
+    normalise(output, "normalise, room for 11: ", word, Lent::new(11))?;
+    finish(
+        output,
+        "finish, 0623, room for 2: ",
+        b"\xD8\xA3",
+        Lent::new(2),
+    )?;
+    finish(
+        output,
+        "finish, 0623, room for 1: ",
+        b"\xD8\xA3",
+        Lent::new(1),
+    )?;
     kind(output, "kind, defined: ", word)
 }
 
 // The part that is handed back, and the output behind it.
 fn parts(output: &mut impl Write, word: &[u8]) -> io::Result<()> {
-    stem_part(output, "part, room for 8: ", word, 8)?;
-    stem_part(output, "part, room for 16: ", word, 16)?;
-    stem_part(output, "part, room for 7: ", word, 7)?;
-    stem_part(output, "part, room for 340: ", word, ROOM)?;
-    stem_part(output, "part, room for 396: ", word, LARGEST)
+    stem_part(output, "part, room for 8: ", word, Lent::new(8))?;
+    stem_part(output, "part, room for 16: ", word, Lent::new(16))?;
+    stem_part(output, "part, room for 7: ", word, Lent::new(7))?;
+    stem_part(output, "part, room for 340: ", word, Lent::new(ROOM))?;
+    stem_part(output, "part, room for 396: ", word, Lent::new(LARGEST))
 }
 
 // An empty part, and an output that is as it was.
 fn refused_parts(output: &mut impl Write) -> io::Result<()> {
     let latin = [b'a'; LONGEST + 1];
-    stem_part(output, "part, 256 bytes of a, room for 340: ", &latin, ROOM)?;
+    stem_part(
+        output,
+        "part, 256 bytes of a, room for 340: ",
+        &latin,
+        Lent::new(ROOM),
+    )?;
     stem_part(
         output,
         "part, 256 bytes of a, room for 396: ",
         &latin,
-        LARGEST,
+        Lent::new(LARGEST),
     )?;
-    stem_part(output, "part, C0 80, room for 340: ", b"\xC0\x80", ROOM)?;
-    stem_part(output, "part, C0 80, room for 396: ", b"\xC0\x80", LARGEST)
+    stem_part(
+        output,
+        "part, C0 80, room for 340: ",
+        b"\xC0\x80",
+        Lent::new(ROOM),
+    )?;
+    stem_part(
+        output,
+        "part, C0 80, room for 396: ",
+        b"\xC0\x80",
+        Lent::new(LARGEST),
+    )
 }
 
 // The longest parts: the stem of 85 times FEFB has 338 bytes.
 fn long_parts(output: &mut impl Write) -> io::Result<()> {
     let word = ligatures();
-    stem_part(output, "part, 85 times FEFB, room for 337: ", &word, 337)?;
-    stem_part(output, "part, 85 times FEFB, room for 340: ", &word, ROOM)?;
+    stem_part(
+        output,
+        "part, 85 times FEFB, room for 337: ",
+        &word,
+        Lent::new(337),
+    )?;
+    stem_part(
+        output,
+        "part, 85 times FEFB, room for 340: ",
+        &word,
+        Lent::new(ROOM),
+    )?;
     stem_part(
         output,
         "part, 85 times FEFB, room for 396: ",
         &word,
-        LARGEST,
+        Lent::new(LARGEST),
     )
 }
 
 // The empty word, and a word that becomes empty.
 fn empty(output: &mut impl Write) -> io::Result<()> {
-    stem(output, "stem, empty word, no room: ", b"", 0)?;
-    stem(output, "stem, empty word, room for 4: ", b"", 4)?;
-    normalise(output, "normalise, empty word, no room: ", b"", 0)?;
-    finish(output, "finish, empty word, no room: ", b"", 0)?;
+    stem(output, "stem, empty word, no room: ", b"", Lent::new(0))?;
+    stem(output, "stem, empty word, room for 4: ", b"", Lent::new(4))?;
+    normalise(
+        output,
+        "normalise, empty word, no room: ",
+        b"",
+        Lent::new(0),
+    )?;
+    finish(output, "finish, empty word, no room: ", b"", Lent::new(0))?;
     kind(output, "kind, empty word: ", b"")?;
-    stem(output, "stem, a mark alone: ", b"!", 4)
+    stem(output, "stem, a mark alone: ", b"!", Lent::new(4))
 }
 
 // Empty parts under code 0.
 fn empty_parts(output: &mut impl Write) -> io::Result<()> {
-    stem_part(output, "part, empty word, no room: ", b"", 0)?;
-    stem_part(output, "part, empty word, room for 340: ", b"", ROOM)?;
-    stem_part(output, "part, empty word, room for 396: ", b"", LARGEST)?;
-    stem_part(output, "part, a mark alone, room for 4: ", b"!", 4)
+    stem_part(output, "part, empty word, no room: ", b"", Lent::new(0))?;
+    stem_part(
+        output,
+        "part, empty word, room for 340: ",
+        b"",
+        Lent::new(ROOM),
+    )?;
+    stem_part(
+        output,
+        "part, empty word, room for 396: ",
+        b"",
+        Lent::new(LARGEST),
+    )?;
+    stem_part(
+        output,
+        "part, a mark alone, room for 4: ",
+        b"!",
+        Lent::new(4),
+    )
 }
 
 // How many endings were cut: one of three letters, three of a defined word, four of seven letters, one by an alternative that fails
@@ -226,31 +345,31 @@ fn endings(output: &mut impl Write) -> io::Result<()> {
         output,
         "stem, 0628 0646 064A: ",
         b"\xD8\xA8\xD9\x86\xD9\x8A",
-        4,
+        Lent::new(4),
     )?;
     stem(
         output,
         "stem, 0628 0646 064A, room for 3: ",
         b"\xD8\xA8\xD9\x86\xD9\x8A",
-        3,
+        Lent::new(3),
     )?;
     stem(
         output,
         "stem, 0627 0644 064A 0627 062A 0646: ",
         b"\xD8\xA7\xD9\x84\xD9\x8A\xD8\xA7\xD8\xAA\xD9\x86",
-        4,
+        Lent::new(4),
     )?;
     stem(
         output,
         "stem, 7 times 0647: ",
         b"\xD9\x87\xD9\x87\xD9\x87\xD9\x87\xD9\x87\xD9\x87\xD9\x87",
-        6,
+        Lent::new(6),
     )?;
     stem(
         output,
         "stem, 0627 0644 0645 0633 0643 0646: ",
         b"\xD8\xA7\xD9\x84\xD9\x85\xD8\xB3\xD9\x83\xD9\x86",
-        6,
+        Lent::new(6),
     )
 }
 

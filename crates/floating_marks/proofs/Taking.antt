@@ -4,8 +4,8 @@ use mathlib.Core.Bool.{Bool, true, false}
 use mathlib.Core.List.{List, ◌∷◌, ◌++◌, append_assoc, append-nil}
 use Prim.Native.Nat.{ℕ, ◌+◌, ◌≤◌, ◌<◌}
 use native.Mathlib.Omega.{arith}
-use lib.ListN.{length, take, drop}
-use lib.Seq.{take-length, length-take-le}
+use lib.ListN.{length, take}
+use lib.Seq.{length-take-le}
 use Rattle.definition.specs.Words.{Word, pick}
 use Rattle.definition.specs.Floating.{floating, unmarked}
 use Rattle.utf8.specs.Utf8.{encode1, encode}
@@ -15,65 +15,55 @@ use Rattle.utf8.specs.declared.letters.Letter.{Letter}
 use Rattle.utf8.proofs.ReadLetter.{scalar_top}
 use Rattle.utf8.proofs.Ahead as ahead
 use Rattle.utf8.proofs.Ahead.{Ahead, Next}
-use Rattle.floating_marks.specs.Marked.{TellsMark, TakenOut}
-use Rattle.floating_marks.proofs.Bytes.{mark_width}
+use Rattle.floating_marks.specs.Marked.{TakenOut}
 
 -- The loop's invariant: the first `at` bytes of out are those of the letters before i, without the marks.
 pub record Inv (text : List ℕ) (room : ℕ) (i : ℕ) (out : List ℕ) (at : ℕ) : Type 0 where
-  pub to : Ahead text (length text) text i
+  pub to : Ahead text text i
   pub bytes : take at out ++ encode (unmarked to.rest) ≡ encode (unmarked to.word)
   pub bound : at ≤ i
   pub size : length out ≡ room
 
-pub start : (text : List ℕ) (room : ℕ) (out : List ℕ) → Spelt text (length text) → length out ≡ room → Inv text room 0 out 0
-start text room out s z = record { to = ahead.start text (length text) s.word s.within s.encodes; bytes = refl; bound = omega arith; size = z }
+pub start : (text : List ℕ) (room : ℕ) (out : List ℕ) → Spelt text → length out ≡ room → Inv text room 0 out 0
+start text room out s z = record { to = ahead.start text s.word s.encodes; bytes = refl; bound = omega arith; size = z }
 
 module _ {text : List ℕ} {room i : ℕ} {out : List ℕ} {at : ℕ} (v : Inv text room i out at) where
   pub letter : i < length text → SomeLetter text i
   letter = ahead.letter v.to
 
-  -- one turn: the letter at i, of which b tells whether it is a mark
-  module _ (h : i < length text) (b : Bool) (f : TellsMark text i b) where
-    next : Next text i (length text) (drop (length text) text) v.to.rest
+  -- one turn: the letter at i is read as l
+  module _ (h : i < length text) (l : Letter) (g : Read text i l) where
+    next : Next text i (length text) v.to.rest
     next = ahead.next v.to h
 
-    told : b ≡ floating next.c
-    told = f next.c (encode next.t ++ drop (length text) text) next.at
+    is : (l.code ≡ next.c) × (l.width ≡ length (encode1 next.c))
+    is = g next.c (encode next.t) next.at
 
-    rest-letters : unmarked v.to.rest ≡ pick b (unmarked next.t) (next.c ∷ unmarked next.t)
-    unfolding unmarked
-    rest-letters = ap unmarked next.is ∙ ap (λ (x : Bool). pick x (unmarked next.t) (next.c ∷ unmarked next.t)) (sym told)
+    pub moves : (i < i + l.width) × (i + l.width ≤ length text)
+    moves = omega (arith, is.1, next.wide, next.ends)
 
-    -- a mark has three bytes, which are passed
-    wide : b ≡ true → length (encode1 next.c) ≡ 3
-    wide e = mark_width text i next.c (encode next.t ++ drop (length text) text) next.at (sym told ∙ e)
+    pub code_top : l.code < 0x110000
+    code_top = omega (arith, is.0, scalar_top next.c next.at.0)
 
-    pub mark-inside : b ≡ true → i + 3 ≤ length text
-    mark-inside e = omega (arith, wide e, next.ends)
+    pub fits : length text ≤ room → at + length (encode1 l.code) ≤ room
+    fits m = omega (arith, ap (λ (x : ℕ). length (encode1 x)) is.0, next.ends, v.bound)
 
-    pub mark_turn : b ≡ true → Inv text room (i + 3) out at
-    mark_turn e = record {
-      to = ahead.past v.to next text (i + 3) (ap (λ (x : ℕ). i + x) (sym (wide e))) refl;
-      bytes =
-          ap (λ (w : Word). take at out ++ encode w) (sym (rest-letters ∙ ap (λ (x : Bool). pick x (unmarked next.t) (next.c ∷ unmarked next.t)) e))
-          ∙ v.bytes;
-      bound = omega (arith, v.bound);
-      size = v.size;
-    }
+    -- b tells whether it is a mark
+    module _ (b : Bool) (f : b ≡ floating l.code) where
+      rest-letters : unmarked v.to.rest ≡ pick b (unmarked next.t) (next.c ∷ unmarked next.t)
+      unfolding unmarked
+      rest-letters = ap unmarked next.is ∙ ap (λ (x : Bool). pick x (unmarked next.t) (next.c ∷ unmarked next.t)) (sym (f ∙ ap floating is.0))
 
-    -- any other letter l is read, and written
-    module _ (l : Letter) (g : Read text i l) where
-      is : (l.code ≡ next.c) × (l.width ≡ length (encode1 next.c))
-      is = g next.c (encode next.t ++ drop (length text) text) next.at
-
-      pub moves : (i < i + l.width) × (i + l.width ≤ length text)
-      moves = omega (arith, is.1, next.wide, next.ends)
-
-      pub code_top : l.code < 0x110000
-      code_top = omega (arith, is.0, scalar_top next.c next.at.0)
-
-      pub fits : length text ≤ room → at + length (encode1 l.code) ≤ room
-      fits m = omega (arith, ap (λ (x : ℕ). length (encode1 x)) is.0, next.ends, v.bound)
+      -- a mark is passed
+      pub mark_turn : b ≡ true → Inv text room (i + l.width) out at
+      mark_turn e = record {
+        to = ahead.past v.to next text (i + l.width) (ap (λ (x : ℕ). i + x) is.1) refl;
+        bytes =
+            ap (λ (w : Word). take at out ++ encode w) (sym (rest-letters ∙ ap (λ (x : Bool). pick x (unmarked next.t) (next.c ∷ unmarked next.t)) e))
+            ∙ v.bytes;
+        bound = omega (arith, v.bound);
+        size = v.size;
+      }
 
       letters-kept : b ≡ false → encode (unmarked v.to.rest) ≡ encode1 l.code ++ encode (unmarked next.t)
       unfolding encode
@@ -81,6 +71,7 @@ module _ {text : List ℕ} {room i : ℕ} {out : List ℕ} {at : ℕ} (v : Inv t
           ap encode (rest-letters ∙ ap (λ (x : Bool). pick x (unmarked next.t) (next.c ∷ unmarked next.t)) e)
           ∙ ap (λ (x : ℕ). encode1 x ++ encode (unmarked next.t)) (sym is.0)
 
+      -- and any other letter is written
       pub letter_turn : b ≡ false → (r : ℕ) (new : List ℕ) → Wrote out at (encode1 l.code) new r → Inv text room (i + l.width) new r
       letter_turn e r new u = record {
         to = ahead.past v.to next text (i + l.width) (ap (λ (x : ℕ). i + x) is.1) refl;
@@ -100,6 +91,6 @@ module _ {text : List ℕ} {room i : ℕ} {out : List ℕ} {at : ℕ} (v : Inv t
       sym (append-nil (take at out))
       ∙ ap (λ (x : Word). take at out ++ encode (unmarked x)) (sym (ahead.none_left v.to l))
       ∙ v.bytes
-      ∙ ap (λ (x : Word). encode (unmarked x)) (ahead.only v.to cs (e.0, take-length text ∙ e.1)) in
+      ∙ ap (λ (x : Word). encode (unmarked x)) (ahead.only v.to cs e) in
       let k : at ≤ length out = omega (arith, v.bound, v.to.ends, v.size) in
       record { bytes = b; sized = omega (arith, ap length b, length-take-le at out k); within = k }

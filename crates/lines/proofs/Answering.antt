@@ -11,25 +11,26 @@ use borrow.Author.Tests.{ne_eqb}
 use Rattle.definition.specs.Words.{pick}
 use Rattle.definition.specs.Stem.{stem}
 use Rattle.definition.proofs.Match.{by_le}
-use Rattle.stemmer.specs.declared.Answer.{Answer}
-use Rattle.stemmer.specs.declared.Answer.TheVariants.{Done, TooLong, NotWellFormed, NoRoom}
-use Rattle.stemmer.specs.declared.Checked.{Checked}
-use Rattle.stemmer.specs.declared.Checked.TheVariants.{Overlong, Malformed, Accepted}
-use Rattle.stemmer.specs.Entries.{most_bytes, code_of, checked, after_checks, fitting, answer, stem_bytes, stem_answer, out_after}
-use Rattle.stemmer.proofs.Answers.{done_count, done-fits, over_long}
+use Rattle.std.specs.Prelude.{Result, Ok, Err}
+use Rattle.stemmer.specs.declared.outcome.BadWord.{BadWord}
+use Rattle.stemmer.specs.declared.outcome.BadWord.TheVariants.{TooLong, NotWellFormed}
+use Rattle.stemmer.specs.declared.outcome.Refusal.{Refusal}
+use Rattle.stemmer.specs.declared.outcome.Refusal.TheVariants.{Bad, NoRoom}
+use Rattle.stemmer.specs.Entries.{Answer, most_bytes, code_of, refusal_code, checked, after_checks, fitting, answer, stem_bytes, stem_answer}
+use Rattle.stemmer.proofs.Answers.{done_count, done-fits, over_long, refused_code}
 use Rattle.lines.specs.Plain.{line_feed, refusal, text_after, answer_line}
 use Rattle.lines.specs.Machine.{kept_bytes, stem_room, line_room}
 use Rattle.lines.specs.Facts.{shown}
 use Rattle.lines.proofs.Room.{never_three}
 
 -- the checks as an answer, and the two of them that a line knows
-shown_by : (k : Checked) (d : Bool) (m : ℕ) (bs : List ℕ) → (code_of (after_checks k (pick d NoRoom (Done m))) ≡ 3 → ⊥)
-    → text_after k bs ≡ shown (after_checks k (pick d NoRoom (Done m))) bs
+shown_by : (k : Result (Unit {0}) BadWord) (d : Bool) (m : ℕ) (bs : List ℕ) → (code_of (after_checks k (pick d (Err NoRoom) (Ok m))) ≡ 3 → ⊥)
+    → text_after k bs ≡ shown (after_checks k (pick d (Err NoRoom) (Ok m))) bs
 unfolding shown
-shown_by Overlong d m bs n = refl
-shown_by Malformed d m bs n = refl
-shown_by Accepted true m bs n = absurd (n refl)
-shown_by Accepted false m bs n = refl
+shown_by (Err TooLong) d m bs n = refl
+shown_by (Err NotWellFormed) d m bs n = refl
+shown_by (Ok u) true m bs n = absurd (n refl)
+shown_by (Ok u) false m bs n = refl
 
 -- an answer of the stem entry with room for every stem is the line's
 pub line_answer : (w : List ℕ) → answer_line w ≡ shown (stem_answer w stem_room) (stem_bytes w) ++ line_feed ∷ []
@@ -38,37 +39,24 @@ line_answer w =
     ap (λ (t : List ℕ). t ++ line_feed ∷ [])
     (shown_by (checked w) (ltb stem_room (length (stem_bytes w))) (length (stem_bytes w)) (stem_bytes w) (never_three w))
 
-pub line_done : (w : List ℕ) (n : ℕ) → stem_answer w stem_room ≡ Done n → answer_line w ≡ stem_bytes w ++ line_feed ∷ []
+pub line_done : (w : List ℕ) (n : ℕ) → stem_answer w stem_room ≡ Ok n → answer_line w ≡ stem_bytes w ++ line_feed ∷ []
 unfolding shown
 line_done w n e = line_answer w ∙ rw e
 
-pub line_refused : (w : List ℕ) (a : Answer) → stem_answer w stem_room ≡ a → 1 ≤ code_of a → answer_line w ≡ refusal (code_of a) ++ line_feed ∷ []
+pub line_refused : (w : List ℕ) (r : Refusal) → stem_answer w stem_room ≡ Err r → answer_line w ≡ refusal (refusal_code r) ++ line_feed ∷ []
 unfolding shown
-line_refused w (Done n) e h = absurd (omega arith)
-line_refused w TooLong e h = line_answer w ∙ rw e
-line_refused w NotWellFormed e h = line_answer w ∙ rw e
-line_refused w NoRoom e h = line_answer w ∙ rw e
-
--- a refusal leaves the output as it was
-pub out-refused : (a : Answer) (bs old : List ℕ) → 1 ≤ code_of a → out_after a bs old ≡ old
-unfolding out_after
-out-refused (Done n) bs old h = absurd (omega arith)
-out-refused TooLong bs old h = refl
-out-refused NotWellFormed bs old h = refl
-out-refused NoRoom bs old h = refl
+line_refused w r e = line_answer w ∙ rw e (simp (ne_eqb (refusal_code r) 0 (refused_code r)))
 
 pub line_most : (w : List ℕ) → length (answer_line w) ≤ line_room
 line_most w = of (stem_answer w stem_room) refl
   where
     of : (a : Answer) → stem_answer w stem_room ≡ a → length (answer_line w) ≤ line_room
-    of (Done n) e = rw (line_done w n e, length-append) (omega (arith, done-fits w stem_room n e, done_count w stem_room n e))
-    of TooLong e = rw (line_refused w TooLong e (omega arith)) (omega arith)
-    of NotWellFormed e = rw (line_refused w NotWellFormed e (omega arith)) (omega arith)
-    of NoRoom e = rw (line_refused w NoRoom e (omega arith)) (omega arith)
+    of (Ok n) e = rw (line_done w n e, length-append) (omega (arith, done-fits w stem_room n e, done_count w stem_room n e))
+    of (Err r) e = rw (line_refused w r e) (omega arith)
 
 -- an overlong line is answered by `?1`
 pub line_long : (w : List ℕ) → most_bytes < length w → answer_line w ≡ refusal 1 ++ line_feed ∷ []
-line_long w h = line_refused w TooLong (over_long stem w stem_room h) (omega arith)
+line_long w h = line_refused w (Bad TooLong) (over_long stem w stem_room h)
 
 -- so the bytes that are kept of a line have its answer
 pub line_kept : (w : List ℕ) → answer_line (take kept_bytes w) ≡ answer_line w

@@ -8,7 +8,8 @@ use lib.ListN.{length, take, drop, get_or, length-append, length-drop}
 use lib.Seq.{length-take-le, take-suc, take_at, drop_at, drop-drop, drop-cons}
 use borrow.Rule.Slice.PartMut.{put_mid}
 use Rattle.lines.specs.Machine.{Reading, line_room, step, said, after, written, taken, Turns, Feeds}
-use Rattle.lines.proofs.Lists.{rest_is, rest-length, back_is}
+use Rattle.std.proofs.lemmas.List.{take_rest}
+use Rattle.lines.proofs.Lists.{rest-length, back_is}
 use Rattle.lines.proofs.Runs.{after_one, written_one, said-most, taken_more, taken_none, taken-end}
 
 -- i bytes of the input are passed, and at bytes are written
@@ -43,7 +44,7 @@ next {input} {s₀} {s} {s'} {out₀} {out} {part} {at} {i} {count} p h k l t =
     let more : take (i + 1) input ≡ take i input ++ get_or input i 0 ∷ [] = rw add-one (take-suc input i 0 h) in
     let front : take at out ≡ written s₀ (take i input) = ap (take at) p.shown ∙ take_at (written s₀ (take i input)) (drop at out₀) at (sym p.counts) in
     let rest : drop at out ≡ drop at out₀ = ap (drop at) p.shown ∙ drop_at (written s₀ (take i input)) (drop at out₀) at (sym p.counts) in
-    let part_is : part ≡ said s (get_or input i 0) ++ drop (at + count) out₀ = t.out ∙ rw (rest_is, rest, drop-drop) in
+    let part_is : part ≡ said s (get_or input i 0) ++ drop (at + count) out₀ = t.out ∙ rw (take_rest, rest, drop-drop) in
     let grown : written s₀ (take (i + 1) input) ≡ written s₀ (take i input) ++ said s (get_or input i 0) =
     ap (written s₀) more ∙ (written_one s₀ (take i input) b ∙ ap (λ (x : Reading). written s₀ (take i input) ++ said x b) (sym p.state)) in
     let same : length (put_mid at (length out - at) out part) ≡ length out₀ =
@@ -75,8 +76,8 @@ finished p e = record {
   fits = p.fits;
 }
 
-pub input-ends : {input : List ℕ} {s₀ s : Reading} {out₀ out : List ℕ} {at i : ℕ} → Passed input s₀ s out₀ out at i → length input ≤ i → Feeds input s₀ s out₀ out i at
-input-ends {input} {s = s} {out₀ = out₀} {at = at} {i = i} p h = finished p (taken-end (length out₀ - at) s (drop i input) (simp length-drop (omega arith)))
+pub input_ends : {input : List ℕ} {s₀ s : Reading} {out₀ out : List ℕ} {at i : ℕ} → Passed input s₀ s out₀ out at i → length input ≤ i → Feeds input s₀ s out₀ out i at
+input_ends {input} {s = s} {out₀ = out₀} {at = at} {i = i} p h = finished p (taken-end (length out₀ - at) s (drop i input) (simp length-drop (omega arith)))
 
-pub room-ends : {input : List ℕ} {s₀ s : Reading} {out₀ out : List ℕ} {at i : ℕ} → Passed input s₀ s out₀ out at i → length out - at < line_room → Feeds input s₀ s out₀ out i at
-room-ends {input} {s = s} {out₀ = out₀} {at = at} {i = i} p h = finished p (taken_none (length out₀ - at) s (drop i input) (omega (arith, p.kept)))
+pub room_ends : {input : List ℕ} {s₀ s : Reading} {out₀ out : List ℕ} {at i : ℕ} → Passed input s₀ s out₀ out at i → length out - at < line_room → Feeds input s₀ s out₀ out i at
+room_ends {input} {s = s} {out₀ = out₀} {at = at} {i = i} p h = finished p (taken_none (length out₀ - at) s (drop i input) (omega (arith, p.kept)))

@@ -3,9 +3,8 @@ use mathlib.Core.Path.{◌≡◌, refl}
 use mathlib.Core.List.{List, [], ◌∷◌, ◌++◌, map, flatten}
 use Prim.Native.Nat.{ℕ, ◌≤◌, ◌<◌}
 use lib.ListN.{length}
-use Rattle.lines.specs.declared.State.{State}
 use Rattle.lines.specs.Plain.{line_feed, question_mark, refusal, skip_mark, lines_of, answer_line, output}
-use Rattle.lines.specs.Machine.{Reading, stem_room, line_room, start, reading, after, written, last_line, Feeds}
+use Rattle.lines.specs.Machine.{Reading, stem_room, line_room, start, after, written, last_line, Feeds}
 use Rattle.lines.specs.Calls.{Calls}
 use Rattle.lines.specs.Facts.{Without, shown}
 use Rattle.lines.specs.Examples.{examples}
@@ -19,12 +18,12 @@ use Rattle.lines.proofs.Calling.{calls_output, calls_are, feeds_some}
 use Rattle.lines.proofs.Whole.{whole}
 
 -- what calls of `feed` and `finish` write for an input in pieces, whatever the pieces and the outputs that they are lent, is what the plain
--- definition says of the pieces joined; `State::start` gives such a state
-pub main_calls : {s : State} {line : List ℕ} {pieces : List (List ℕ)} {w : List ℕ} → reading s line ≡ start → Calls s line pieces w → w ≡ output (flatten pieces)
+-- definition says of the pieces joined; `Reader::start` gives such a reader
+pub main_calls : {s : Reading} {pieces : List (List ℕ)} {w : List ℕ} → s ≡ start → Calls s pieces w → w ≡ output (flatten pieces)
 main_calls = calls_output
 
 -- there are such calls for every list of pieces
-pub main_some : (s : State) (line : List ℕ) (pieces : List (List ℕ)) → (w : List ℕ) × Calls s line pieces w
+pub main_some : (s : Reading) (pieces : List (List ℕ)) → (w : List ℕ) × Calls s pieces w
 main_some = calls_are
 
 -- and a call with room for any line takes at least a byte, so that each piece is taken whole by as many calls

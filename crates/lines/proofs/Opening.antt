@@ -2,11 +2,12 @@
 use mathlib.Core.Path.{◌≡◌, refl, ap, sym, ◌∙◌}
 use mathlib.Core.Bool.{Bool, true, false, false≢true}
 use mathlib.Core.List.{List, [], ◌∷◌, ◌++◌}
-use Prim.Native.Nat.{ℕ, zero, suc, ◌<◌, ◌≤◌}
+use Prim.Native.Nat.{ℕ, zero, suc, ◌<◌}
 use native.Mathlib.Omega.{arith}
 use lib.Dec.{eqb}
 use lib.ListN.{length, take, get_or}
-use lib.Seq.{length-take-le, get_or-take, get_or-append_seam}
+use lib.Pointwise.{pointwise, bytes_decides}
+use lib.Seq.{get_or-take, get_or-append_seam}
 use borrow.Author.Tests.{eq-eqb, ne_eqb, eqb-true}
 use Rattle.definition.specs.Words.{pick, same, begins_with}
 use Rattle.definition.proofs.Match.{by, same_eq, same_refl}
@@ -31,10 +32,9 @@ unfolding opened
 opened-other true l h = simp (ne_eqb (length l) 3 h)
 opened-other false l h = refl
 
--- three bytes in a buffer, with the comparison's answer r
-pub at_three : (l : List ℕ) (f : Bool) (n : ℕ) (r : Bool) → f ≡ true → n ≡ 3 → 3 ≤ length l → (r ≡ true → take 3 l ≡ mark) → (take 3 l ≡ mark → r ≡ true)
-    → opened f (take n l) ≡ (false, pick r [] (take 3 l))
-at_three l f n r e h k p q = rw h (opened-three f (take 3 l) r e (length-take-le 3 l k) (same_is r (take 3 l) mark p q))
+-- the comparison of two slices is `same`
+pub same_slice : (a b : List ℕ) → pointwise eqb a b ≡ same a b
+same_slice a b = let d = bytes_decides a b in sym (same_is (pointwise eqb a b) a b d.0 d.1)
 
 -- an input that does not open with the mark is not cut
 pub uncut : (l : List ℕ) → (take 3 l ≡ mark → ⊥) → skip_mark l ≡ l

@@ -19,9 +19,10 @@ use Rattle.definition.proofs.Main.{main_demand3}
 use Rattle.utf8.specs.Utf8.{encode1, encode}
 use Rattle.utf8.proofs.Text.{encode-append}
 use Rattle.arabic.proofs.Main.{main_fits}
-use Rattle.stemmer.specs.declared.Answer.TheVariants.{Done, NoRoom}
-use Rattle.stemmer.specs.declared.Checked.{Checked}
-use Rattle.stemmer.specs.declared.Checked.TheVariants.{Overlong, Malformed, Accepted}
+use Rattle.std.specs.Prelude.{Result, Ok, Err}
+use Rattle.stemmer.specs.declared.outcome.BadWord.{BadWord}
+use Rattle.stemmer.specs.declared.outcome.BadWord.TheVariants.{TooLong, NotWellFormed}
+use Rattle.stemmer.specs.declared.outcome.Refusal.TheVariants.{NoRoom}
 use Rattle.stemmer.specs.Entries.{code_of, checked, after_checks, letters, bytes_of, fitting, answer, stem_bytes, stem_answer}
 use Rattle.stemmer.proofs.Answers.{short, spelling}
 use Rattle.lines.specs.Machine.{stem_room}
@@ -95,18 +96,18 @@ stem-size w s d =
     omega (arith, kept, first, parts, append-size (head_letter w) (run w), append-size (front w) (run w ++ back w), append-size (run w) (back w))
 
 -- 340 bytes are enough for the stem of a word that is not refused
-stem-fits : (w : List ℕ) → checked w ≡ Accepted → length (stem_bytes w) ≤ stem_room
+stem-fits : (w : List ℕ) → checked w ≡ Ok tt → length (stem_bytes w) ≤ stem_room
 unfolding bytes_of
 stem-fits w e =
     let size : length (encode (letters w)) ≡ length w = ap length (sym (spelling w e)) in
     let few = short w e in
     omega (arith, stem-size (letters w) (stem (letters w)) (main_demand3 (letters w)), main_fits (letters w) (omega arith))
 
-no_three : (k : Checked) (d : Bool) (m : ℕ) → (k ≡ Accepted → d ≡ false) → code_of (after_checks k (pick d NoRoom (Done m))) ≡ 3 → ⊥
-no_three Overlong d m f z = omega arith
-no_three Malformed d m f z = omega arith
-no_three Accepted true m f z = false≢true (sym (f refl))
-no_three Accepted false m f z = omega arith
+no_three : (k : Result (Unit {0}) BadWord) (d : Bool) (m : ℕ) → (k ≡ Ok tt → d ≡ false) → code_of (after_checks k (pick d (Err NoRoom) (Ok m))) ≡ 3 → ⊥
+no_three (Err TooLong) d m f z = omega arith
+no_three (Err NotWellFormed) d m f z = omega arith
+no_three (Ok u) true m f z = false≢true (sym (f refl))
+no_three (Ok u) false m f z = omega arith
 
 pub never_three : (w : List ℕ) → code_of (stem_answer w stem_room) ≡ 3 → ⊥
 unfolding answer fitting

@@ -2,18 +2,17 @@
 use mathlib.Core.Path.{◌≡◌, refl, ap, ◌∙◌}
 use mathlib.Core.Bool.{Bool, true, false}
 use mathlib.Core.List.{List, [], ◌∷◌, ◌++◌, append_assoc, append-nil}
-use Prim.Native.Nat.{ℕ, suc, ◌+◌, ◌-◌, ◌≤◌, ◌<◌}
+use Prim.Native.Nat.{ℕ, suc, ◌-◌, ◌≤◌, ◌<◌}
 use native.Mathlib.Omega.{arith}
 use lib.Dec.{eqb}
-use lib.ListN.{length, take, drop}
-use lib.Seq.{take-add}
+use lib.ListN.{length, take, drop, take-append-drop}
 use borrow.Author.Tests.{le-leb, lt-leb, eq-eqb, ne_eqb}
 use Rattle.definition.specs.Words.{pick}
 use Rattle.definition.proofs.Match.{by_le}
 use Rattle.lines.specs.Plain.{line_feed, answer_line}
 use Rattle.lines.specs.Machine.{Reading, line_room, step, said, after, written, last_line, taken}
 use Rattle.lines.proofs.Answering.{line_most}
-use Rattle.lines.proofs.Lists.{rest_is}
+use Rattle.std.proofs.lemmas.List.{take_rest}
 
 pub after-append : (s : Reading) (xs ys : List ℕ) → after s (xs ++ ys) ≡ after (after s xs) ys
 unfolding after
@@ -33,10 +32,9 @@ pub written_one : (s : Reading) (xs : List ℕ) (b : ℕ) → written s (xs ++ b
 unfolding written
 written_one s xs b = written-append s xs (b ∷ []) ∙ ap (λ (t : List ℕ). written s xs ++ t) (append-nil (said (after s xs) b))
 
--- a further part of the input, as `&input[at..]` shows it
-pub after_part : (s : Reading) (input : List ℕ) (at used : ℕ)
-    → after (after s (take at input)) (take used (take (length input - at) (drop at input))) ≡ after s (take (at + used) input)
-after_part s input at used = rw (rest_is, ← after-append, ← take-add)
+-- the rest of the input, as `&input[used..]` shows it
+pub after_rest : (s : Reading) (input : List ℕ) (used : ℕ) → after (after s (take used input)) (take (length input - used) (drop used input)) ≡ after s input
+after_rest s input used = rw (take_rest, ← after-append, take-append-drop)
 
 -- a byte is taken where there is room for any line, and none where there is not
 pub taken_more : (room : ℕ) (s : Reading) (b : ℕ) (bs : List ℕ) → line_room ≤ room

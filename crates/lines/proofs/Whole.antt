@@ -11,14 +11,15 @@ use borrow.Author.Tests.{lt-ltb, le-ltb}
 use Rattle.definition.specs.Words.{same, begins_with}
 use Rattle.definition.proofs.Match.{by, by_le}
 use Rattle.lines.specs.Plain.{line_feed, mark, skip_mark, lines_of, answer_line, output}
-use Rattle.lines.specs.Machine.{Reading, kept_bytes, start, put_behind, opened, step, said, after, written, last_line}
+use Rattle.lines.specs.Line.{put_behind}
+use Rattle.lines.specs.Machine.{Reading, kept_bytes, start, opened, step, said, after, written, last_line}
 use Rattle.lines.proofs.Answering.{line_kept, empty_kept}
 use Rattle.lines.proofs.Opening.{opened-three, opened_later, opened-other, uncut, lf_no_mark}
 use Rattle.lines.proofs.Runs.{last_none, last_some}
 use Rattle.lines.proofs.Splitting.{NoLf, no_lf_behind, line_first, line_last}
 
--- what is written from a state on, the end of the input included
-run : Reading → List ℕ → List ℕ
+-- what is written from a reading on, the end of the input included
+unfoldable pub run : Reading → List ℕ → List ℕ
 run s i = written s i ++ last_line (after s i)
 
 -- the lines of a list, answered
@@ -42,14 +43,14 @@ said_no : (s : Reading) (b : ℕ) → eqb b line_feed ≡ false → said s b ≡
 unfolding said
 said_no s b e = simp e
 
-step_no : (s : Reading) (b : ℕ) → eqb b line_feed ≡ false → step s b ≡ opened s.0 (put_behind s.1 b)
+step_no : (s : Reading) (b : ℕ) → eqb b line_feed ≡ false → step s b ≡ opened s.0 (put_behind kept_bytes s.1 b)
 unfolding step
 step_no s b e = simp e
 
 run_lf : (s : Reading) (b : ℕ) (bs : List ℕ) → eqb b line_feed ≡ true → run s (b ∷ bs) ≡ answer_line s.1 ++ run (false, []) bs
 run_lf s b bs e = run_cons s b bs ∙ rw (said_lf s b e, step_lf s b e)
 
-run_no : (s : Reading) (b : ℕ) (bs : List ℕ) → eqb b line_feed ≡ false → run s (b ∷ bs) ≡ run (opened s.0 (put_behind s.1 b)) bs
+run_no : (s : Reading) (b : ℕ) (bs : List ℕ) → eqb b line_feed ≡ false → run s (b ∷ bs) ≡ run (opened s.0 (put_behind kept_bytes s.1 b)) bs
 run_no s b bs e = run_cons s b bs ∙ rw (said_no s b e, step_no s b e)
 
 answered_lf : (w : List ℕ) (b : ℕ) (bs : List ℕ) → NoLf w → eqb b line_feed ≡ true → answered (w ++ b ∷ bs) ≡ answer_line w ++ answered bs
@@ -63,7 +64,7 @@ answered_last (x ∷ xs) n =
     last_some (false, x ∷ xs) (λ e. omega arith) ∙ sym (ap (flat_map answer_line) (line_last x xs n) ∙ append-nil (answer_line (x ∷ xs)))
 
 -- the bytes that are kept of a longer line
-kept_more : (w : List ℕ) (b : ℕ) → put_behind (take kept_bytes w) b ≡ take kept_bytes (w ++ b ∷ [])
+kept_more : (w : List ℕ) (b : ℕ) → put_behind kept_bytes (take kept_bytes w) b ≡ take kept_bytes (w ++ b ∷ [])
 unfolding put_behind
 kept_more w b = by_le kept_bytes (length w)
     (λ h. simp (le-ltb (length (take kept_bytes w)) kept_bytes (omega (arith, length-take-le kept_bytes w h))) (sym (take-append-le kept_bytes w (b ∷ []) h)))
@@ -83,7 +84,7 @@ later w (b ∷ bs) n = by (eqb b line_feed)
     (λ e. run_lf (false, take kept_bytes w) b bs e ∙ rw (line_kept, later [] bs tt) (sym (answered_lf w b bs n e)))
     (λ e.
     run_no (false, take kept_bytes w) b bs e
-    ∙ rw (opened_later false (put_behind (take kept_bytes w) b) refl, kept_more)
+    ∙ rw (opened_later false (put_behind kept_bytes (take kept_bytes w) b) refl, kept_more)
     (later (w ++ b ∷ []) bs (no_lf_behind w b n e) ∙ ap answered (append_assoc w (b ∷ []) bs)))
 
 later_short : (w bs : List ℕ) → length w ≤ kept_bytes → NoLf w → run (false, w) bs ≡ answered (w ++ bs)
@@ -95,7 +96,7 @@ unfolding skip_mark begins_with
 third q bs h n true e = rw (opened-three true q true refl h e, take_at q bs 3 h, drop_at q bs 3 h, e) (later_short [] bs (omega arith) tt)
 third q bs h n false e = rw (opened-three true q false refl h e, take_at q bs 3 h, e) (later_short q bs (omega arith) n)
 
-put_short : (p : List ℕ) (b : ℕ) → length p < 3 → put_behind p b ≡ p ++ b ∷ []
+put_short : (p : List ℕ) (b : ℕ) → length p < 3 → put_behind kept_bytes p b ≡ p ++ b ∷ []
 unfolding put_behind
 put_short p b h = simp (lt-ltb (length p) kept_bytes (omega arith))
 

@@ -1,8 +1,7 @@
 -- What the main theorems say of bytes and answers.
 use Rattle.std.specs.Prelude.{◌≡◌, List, [], ◌∷◌, ℕ, eqb}
 use Rattle.definition.specs.Words.{pick}
-use Rattle.stemmer.specs.declared.Answer.{Answer}
-use Rattle.stemmer.specs.Entries.{code_of}
+use Rattle.stemmer.specs.Entries.{Answer, code_of}
 use Rattle.lines.specs.Plain.{refusal}
 
 -- no byte of the list is b

@@ -1,9 +1,9 @@
 -- The machine that takes one byte after the other: its state, and what it writes on the way.
-use Rattle.std.specs.Prelude.{◌≡◌, Bool, true, false, List, [], ◌∷◌, ◌++◌, ℕ, suc, ◌-◌, ◌≤◌, eqb, leb, ltb, length, take, drop}
+use Rattle.std.specs.Prelude.{◌≡◌, Bool, true, false, List, [], ◌∷◌, ◌++◌, ℕ, suc, ◌-◌, ◌≤◌, eqb, leb, length, take, drop}
 use Rattle.definition.specs.Words.{pick, both, same}
 use Rattle.stemmer.specs.Entries.{enough_room}
+use Rattle.lines.specs.Line.{put_behind}
 use Rattle.lines.specs.Plain.{line_feed, mark, answer_line}
-use Rattle.lines.specs.declared.State.{State}
 
 -- how many bytes of a line are kept: one more than the longest word has, so that an overlong line stays too long
 abbrev pub kept_bytes : ℕ
@@ -24,21 +24,13 @@ Reading = Bool × List ℕ
 abbrev pub start : Reading
 start = (true, [])
 
--- what a state and the line buffer beside it stand for
-abbrev pub reading : State → List ℕ → Reading
-reading s line = (s.opening, take s.len line)
-
--- a byte behind the line; the tail of an overlong line is dropped
-unfoldable pub put_behind : List ℕ → ℕ → List ℕ
-put_behind l b = pick (ltb (length l) kept_bytes) (l ++ b ∷ []) l
-
 -- the third byte of the input decides whether it opens with the mark
 unfoldable pub opened : Bool → List ℕ → Reading
 opened opening l = pick (both opening (eqb (length l) 3)) (false, pick (same l mark) [] l) (opening, l)
 
 -- the state after a byte, and what the byte makes the machine write
 unfoldable pub step : Reading → ℕ → Reading
-step s b = pick (eqb b line_feed) (false, []) (opened s.0 (put_behind s.1 b))
+step s b = pick (eqb b line_feed) (false, []) (opened s.0 (put_behind kept_bytes s.1 b))
 
 unfoldable pub said : Reading → ℕ → List ℕ
 said s b = pick (eqb b line_feed) (answer_line s.1) []

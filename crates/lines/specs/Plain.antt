@@ -1,9 +1,9 @@
 -- What the line program writes for an input: an opening mark is skipped, and each line of the rest is answered by a line.
 use mathlib.Core.List.{List, [], ◌∷◌, ◌++◌, flat_map}
-use Rattle.std.specs.Prelude.{ℕ, ◌+◌, eqb, length, drop}
+use Rattle.std.specs.Prelude.{ℕ, ◌+◌, eqb, length, drop, Result, Ok, Err}
 use Rattle.definition.specs.Words.{pick, begins_with}
-use Rattle.stemmer.specs.declared.Checked.{Checked}
-use Rattle.stemmer.specs.declared.Checked.TheVariants.{Overlong, Malformed, Accepted}
+use Rattle.stemmer.specs.declared.outcome.BadWord.{BadWord}
+use Rattle.stemmer.specs.declared.outcome.BadWord.TheVariants.{TooLong, NotWellFormed}
 use Rattle.stemmer.specs.Entries.{checked, stem_bytes}
 
 abbrev pub line_feed : ℕ
@@ -38,10 +38,10 @@ abbrev pub refusal : ℕ → List ℕ
 refusal code = question_mark ∷ (zero_digit + code) ∷ []
 
 -- what answers a line after document 01's first two checks: `?1` where it has more than 255 bytes, `?2` where it is not well-formed UTF-8, and else its stem
-abbrev pub text_after : Checked → List ℕ → List ℕ
-text_after Overlong stem = refusal 1
-text_after Malformed stem = refusal 2
-text_after Accepted stem = stem
+abbrev pub text_after : Result (Unit {0}) BadWord → List ℕ → List ℕ
+text_after (Err TooLong) stem = refusal 1
+text_after (Err NotWellFormed) stem = refusal 2
+text_after (Ok accepted) stem = stem
 
 -- the line that answers a line
 unfoldable pub answer_line : List ℕ → List ℕ

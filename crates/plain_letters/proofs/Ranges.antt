@@ -1,29 +1,20 @@
 -- The two ranges of plain letters in bytes. Assumes nothing.
-use mathlib.Core.Path.{◌≡◌, refl, sym}
+use mathlib.Core.Path.{◌≡◌, refl, sym, ap, ◌∙◌, subst}
 use mathlib.Core.Bool.{Bool, true, false}
 use mathlib.Core.Logic.{⊎_elim, inl, inr}
 use mathlib.Core.List.{List}
-use Prim.Native.Nat.{ℕ, ◌+◌, ◌≤◌, ◌<◌}
+use Prim.Native.Nat.{ℕ, ◌+◌, ◌≤◌}
 use native.Mathlib.Omega.{arith}
-use lib.Dec.{leb}
-use lib.ListN.{length, get_or, set}
-use borrow.Author.Tests.{le-leb, lt-leb}
-use Rattle.definition.specs.Facts.{in_range, plain_letter}
+use lib.ListN.{length, take, drop, get_or}
+use lib.Seq.{take_at}
+use Rattle.std.specs.Prelude.{◌↔◌, IsTrue}
+use Rattle.definition.specs.Facts.{plain_letter}
 use Rattle.definition.proofs.Match.{by, clash}
-use Rattle.definition.proofs.Passed.{InRanges, in_range_lem, range_in, ranges_of, plain_of}
+use Rattle.definition.proofs.Passed.{InRanges, ranges_of, plain_of}
 use Rattle.utf8.specs.Utf8.{encode1}
 use Rattle.utf8.specs.Letters.{LetterAt, SomeLetter, Wrote}
 use Rattle.utf8.proofs.ReadLetter.{Two, two, bytes_2, room_2}
-use Rattle.utf8.proofs.WriteLetter.{put_2}
 use Rattle.plain_letters.specs.Telling.{Tells}
-
--- ---- the test of one range
-
-pub too_low : (lo hi b : ℕ) → b < lo → false ≡ in_range lo hi b
-too_low lo hi b h = rw (lt-leb lo b h) refl
-
-pub by_top : (lo hi b : ℕ) → lo ≤ b → leb b hi ≡ in_range lo hi b
-by_top lo hi b h = rw (le-leb lo b h) refl
 
 -- ---- tests that hold in the same cases
 
@@ -46,19 +37,20 @@ module _ (text : List ℕ) (i c : ℕ) (t : List ℕ) (l : LetterAt text i c t) 
   in_two : InRanges c → Two text i c
   in_two r = by_range r (λ h. two text i letter (omega arith) (omega arith)) (λ h. two text i letter (omega arith) (omega arith))
 
-  -- a range of second bytes that stands for the letters of the ranges
-  by_second : (lo hi b : ℕ) → ((lo ≤ b) × (b ≤ hi) → InRanges c) → (InRanges c → (lo ≤ b) × (b ≤ hi)) → in_range lo hi b ≡ plain_letter c
-  by_second lo hi b f g = same_truth (in_range lo hi b) (plain_letter c) (λ e. plain_of c (f (in_range_lem lo hi b e))) (λ e. range_in lo hi b (g (ranges_of c e)))
+  -- the test r of a second byte is that of the ranges
+  by_second : (lo hi b : ℕ) (r : Bool) → IsTrue r ↔ ((lo ≤ b) × (b ≤ hi)) → ((lo ≤ b) × (b ≤ hi) → InRanges c) → (InRanges c → (lo ≤ b) × (b ≤ hi))
+      → r ≡ plain_letter c
+  by_second lo hi b r e f g = same_truth r (plain_letter c) (λ q. plain_of c (f (e.0 q))) (λ q. e.1 (g (ranges_of c q)))
 
-  pub first_D8 : get_or text i 0 ≡ 0xD8 → in_range 0xA1 0xBA (get_or text (i + 1) 0) ≡ plain_letter c
-  first_D8 e =
+  pub first_D8 : get_or text i 0 ≡ 0xD8 → (r : Bool) → IsTrue r ↔ ((0xA1 ≤ get_or text (i + 1) 0) × (get_or text (i + 1) 0 ≤ 0xBA)) → r ≡ plain_letter c
+  first_D8 e r h =
       let x = bytes_2 text i letter (omega arith) (omega arith) in
-      by_second 0xA1 0xBA (get_or text (i + 1) 0) (λ h. inl (omega arith, omega arith)) (λ r. by_range r (λ h. (omega arith, omega arith)) (λ h. absurd (omega arith)))
+      by_second 0xA1 0xBA (get_or text (i + 1) 0) r h (λ q. inl (omega arith, omega arith)) (λ q. by_range q (λ s. (omega arith, omega arith)) (λ s. absurd (omega arith)))
 
-  pub first_D9 : get_or text i 0 ≡ 0xD9 → in_range 0x81 0x8A (get_or text (i + 1) 0) ≡ plain_letter c
-  first_D9 e =
+  pub first_D9 : get_or text i 0 ≡ 0xD9 → (r : Bool) → IsTrue r ↔ ((0x81 ≤ get_or text (i + 1) 0) × (get_or text (i + 1) 0 ≤ 0x8A)) → r ≡ plain_letter c
+  first_D9 e r h =
       let x = bytes_2 text i letter (omega arith) (omega arith) in
-      by_second 0x81 0x8A (get_or text (i + 1) 0) (λ h. inr (omega arith, omega arith)) (λ r. by_range r (λ h. absurd (omega arith)) (λ h. (omega arith, omega arith)))
+      by_second 0x81 0x8A (get_or text (i + 1) 0) r h (λ q. inr (omega arith, omega arith)) (λ q. by_range q (λ s. absurd (omega arith)) (λ s. (omega arith, omega arith)))
 
   pub first-other : (get_or text i 0 ≡ 0xD8 → ⊥) → (get_or text i 0 ≡ 0xD9 → ⊥) → false ≡ plain_letter c
   first-other n m = not_plain c (λ r. let x = in_two r in by_range r (λ h. n (omega arith)) (λ h. m (omega arith)))
@@ -78,8 +70,8 @@ module _ (text : List ℕ) (i : ℕ) (s : SomeLetter text i) (p : Tells text i t
   pub inside : i + 2 ≤ length text
   inside = let x = two_of s.0 s.1 s.2 in room_2 text i s (omega arith)
 
-  pub copied : (c : ℕ) (t : List ℕ) → LetterAt text i c t → (old : List ℕ) (at : ℕ) → at + 2 ≤ length old
-      → Wrote old at (encode1 c) (set (set old at (get_or text i 0)) (at + 1) (get_or text (i + 1) 0)) (at + 2)
-  copied c t l old at r =
-      let x = two_of c t l in
-      put_2 old at c (get_or text i 0) (get_or text (i + 1) 0) x.low x.high x.first x.second r
+  -- so that its bytes are the next two
+  pub copied : {old new : List ℕ} {at r : ℕ} (c : ℕ) (t : List ℕ) → LetterAt text i c t → (n : ℕ) → n ≡ 2 → Wrote old at (take n (drop i text)) new r
+      → Wrote old at (encode1 c) new r
+  copied {old} {new} {at} {r} c t l n e =
+      subst (λ (bs : List ℕ). Wrote old at bs new r) (ap (λ (k : ℕ). take k (drop i text)) e ∙ ap (take 2) l.1 ∙ take_at (encode1 c) t 2 (two_of c t l).width)

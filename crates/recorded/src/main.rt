@@ -5,49 +5,42 @@
 
 mod rows;
 
-ghost use Rattle.std.specs.Prelude.{◌≡◌, ◌≤◌, IfOk, length};
-ghost use Rattle.recorded.specs.Sizes.{line_bytes};
-
+use arabic::kind::Kind;
+use lines::line::Line;
 use std::io;
 use std::io::{Read, Write};
-use stemmer::{Answer, ROOM};
+use stemmer::{BadWord, ROOM, Refusal};
 
 // The bytes of a line that are kept: more than a word may have.
-const LINE: usize = 512;
+const KEPT_BYTES: usize = 512;
 
-fn write_answer(output: &mut impl Write, answer: Answer, out: &[u8]) -> io::Result<()> {
+fn write_answer(
+    output: &mut impl Write,
+    answer: Result<usize, Refusal>,
+    out: &[u8],
+) -> io::Result<()> {
     match answer {
-        Answer::Done(count) => {
-            if count <= out.len() {
-                output.write_all(&out[..count])?;
-            }
-            Ok(())
-        }
-        Answer::TooLong => write!(output, "?1"),
-        Answer::NotWellFormed => write!(output, "?2"),
-        Answer::NoRoom => write!(output, "?3"),
+        Ok(count) => output.write_all(out.get(..count).unwrap_or(&[])),
+        Err(refusal) => write!(output, "?{}", refusal.code()),
     }
 }
 
-fn write_kind(output: &mut impl Write, code: u32, defined: bool) -> io::Result<()> {
-    match (code, defined) {
-        (1, _) => write!(output, "?1"),
-        (2, _) => write!(output, "?2"),
-        (_, true) => write!(output, "1"),
-        (_, false) => write!(output, "0"),
+fn write_kind(output: &mut impl Write, kind: Result<Kind, BadWord>) -> io::Result<()> {
+    match kind {
+        Ok(kind) => write!(output, "{}", u8::from(kind.defined)),
+        Err(refusal) => write!(output, "?{}", refusal.code()),
     }
 }
 
 fn answer_stem(output: &mut impl Write, word: &[u8], out: &mut [u8]) -> io::Result<()> {
     let found = stemmer::stem(word, out);
-    let endings = found.endings;
-    write_answer(output, found.answer, out)?;
+    write_answer(output, found.map(|stem| stem.count), out)?;
+    let endings = found.map_or(0, |stem| stem.endings);
     write!(output, "\t{endings}")
 }
 
 fn answer_others(output: &mut impl Write, word: &[u8], out: &mut [u8]) -> io::Result<()> {
-    let found = stemmer::kind(word);
-    write_kind(output, found.code, found.kind.defined)?;
+    write_kind(output, stemmer::kind(word))?;
     write!(output, "\t")?;
     let normalised = stemmer::normalise(word, out);
     write_answer(output, normalised, out)?;
@@ -65,34 +58,18 @@ fn answer(output: &mut impl Write, word: &[u8], out: &mut [u8]) -> io::Result<()
     writeln!(output)
 }
 
-// Takes one byte of the input, and answers how many bytes the line then has. LF answers the line.
-fn take_byte(
-    output: &mut impl Write,
-    byte: u8,
-    line: &mut [u8],
-    len: usize,
-    out: &mut [u8],
-) -> io::Result<usize>
-    requires { (length line.old ≡ line_bytes) × (len ≤ line_bytes) }
-    ensures { IfOk result (λ count. count ≤ line_bytes) }
-{
-    if byte == b'\n' {
-        answer(output, &line[..len], out)?;
-        return Ok(0);
-    }
-    if len < LINE {
-        line[len] = byte;
-        return Ok(len + 1);
-    }
-    Ok(len)
-}
-
+// LF answers the line in front of it, and a last line with no LF is not answered.
 fn run(input: impl Read + Drop, output: &mut impl Write) -> io::Result<()> {
-    let mut line = [0u8; LINE];
+    let mut line = Line::<KEPT_BYTES>::new();
     let mut out = [0u8; ROOM];
-    let mut len = 0;
     for byte in input.bytes() {
-        len = take_byte(output, byte?, &mut line, len, &mut out)?;
+        let byte = byte?;
+        if byte == b'\n' {
+            answer(output, line.as_bytes(), &mut out)?;
+            line.clear();
+        } else {
+            line.push(byte);
+        }
     }
     Ok(())
 }

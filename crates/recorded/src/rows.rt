@@ -1,13 +1,9 @@
 // The row of each step of the stemmer in one word: 18 numbers parted by spaces. The kind check and each ending get the word as it is; the
 // fronts follow each other, each on what the one before it left.
-ghost use Rattle.std.specs.Prelude.{◌≤◌, length};
-ghost use Rattle.definition.specs.Words.{Word};
-ghost use Rattle.snowball.specs.Chars.{started};
-ghost use Rattle.snowball.specs.Stands.{Stands, work_size};
-ghost use Rattle.utf8.specs.Spelt.{Spelt};
-ghost use Rattle.arabic.specs.Endings.{Ready};
+ghost use Rattle.std.specs.Prelude.{◌≡◌, Ok};
+ghost use Rattle.stemmer.specs.Entries.{checked};
 
-use arabic::context::{Context, checked, step4_verb};
+use arabic::context::{Context, checked, r_Prefix_Step4_Verb};
 use arabic::prefix_steps::{
     r_Prefix_Step1, r_Prefix_Step2, r_Prefix_Step3_Verb, r_Prefix_Step3a_Noun, r_Prefix_Step3b_Noun,
 };
@@ -16,101 +12,90 @@ use arabic::suffix_steps::{
     r_Suffix_Noun_Step2c1, r_Suffix_Noun_Step2c2, r_Suffix_Noun_Step3, r_Suffix_Verb_Step1,
     r_Suffix_Verb_Step2a, r_Suffix_Verb_Step2b, r_Suffix_Verb_Step2c,
 };
+use arabic::tried::left_by;
 use snowball::env::Env;
 use std::io;
 use std::io::Write;
-use stemmer::LONGEST;
-use utf8::well_formed;
+use stemmer::{BadWord, check_word};
 
-fn write_next(output: &mut impl Write, row: usize) -> io::Result<()> {
-    write!(output, " {row}")
+// A word that no entry refuses, and so one that the steps take.
+#[derive(Clone, Copy)]
+struct Word<'a> {
+    bytes: &'a [u8],
+    ghost accepted: { checked bytes.now ≡ Ok tt },
 }
 
-fn at_front(word: &[u8]) -> Env
-    requires { Spelt word.now (length word.now) × (length word.now ≤ work_size) }
-    ensures { (w : Word) × Stands result (started w) }
-{
-    Env::create(word)
-}
+impl<'a> Word<'a> {
+    ghost use Rattle.definition.specs.Words.{Word as Letters};
+    ghost use Rattle.snowball.specs.Chars.{started};
+    ghost use Rattle.snowball.specs.Stands.{Stands};
+    ghost use Rattle.arabic.specs.Endings.{Ready};
 
-fn at_end(word: &[u8]) -> Env
-    requires { Spelt word.now (length word.now) × (length word.now ≤ work_size) }
-    ensures { Ready result }
-{
-    let mut env = at_front(word);
-    env.endings = 0;
-    env.limit_backward = env.cursor;
-    env.cursor = env.limit;
-    env
-}
+    fn new(bytes: &'a [u8]) -> Result<Word<'a>, BadWord> {
+        check_word(bytes)?;
+        Ok(Word { bytes })
+    }
 
-fn write_verb_rows(output: &mut impl Write, word: &[u8]) -> io::Result<()>
-    requires { Spelt word.now (length word.now) × (length word.now ≤ work_size) }
-{
-    write_next(output, r_Suffix_Verb_Step1(at_end(word)).row)?;
-    write_next(output, r_Suffix_Verb_Step2a(at_end(word)).row)?;
-    write_next(output, r_Suffix_Verb_Step2b(at_end(word)).row)?;
-    write_next(output, r_Suffix_Verb_Step2c(at_end(word)).row)
-}
+    // The word in a new environment, with the cursor in front.
+    fn at_front(&self) -> Env
+        ensures { (w : Letters) × Stands result (started w) }
+    {
+        Env::create(self.bytes)
+    }
 
-fn write_first_noun_rows(output: &mut impl Write, word: &[u8]) -> io::Result<()>
-    requires { Spelt word.now (length word.now) × (length word.now ≤ work_size) }
-{
-    write_next(output, r_Suffix_Noun_Step1b(at_end(word)).row)?;
-    write_next(output, r_Suffix_Noun_Step2a(at_end(word)).row)?;
-    write_next(output, r_Suffix_Noun_Step2b(at_end(word)).row)
-}
+    // The same with the cursor at the end, as the endings are cut.
+    fn at_end(&self) -> Env
+        ensures { Ready result }
+    {
+        let mut env = self.at_front();
+        env.limit_backward = env.cursor;
+        env.cursor = env.limit;
+        env.endings = 0;
+        env
+    }
 
-fn write_other_noun_rows(output: &mut impl Write, word: &[u8]) -> io::Result<()>
-    requires { Spelt word.now (length word.now) × (length word.now ≤ work_size) }
-{
-    write_next(output, r_Suffix_Noun_Step2c1(at_end(word)).row)?;
-    write_next(output, r_Suffix_Noun_Step2c2(at_end(word)).row)?;
-    write_next(output, r_Suffix_Noun_Step3(at_end(word)).row)
-}
+    fn ending_rows(&self) -> [usize; 11] {
+        [
+            r_Suffix_Verb_Step1(self.at_end()).row,
+            r_Suffix_Verb_Step2a(self.at_end()).row,
+            r_Suffix_Verb_Step2b(self.at_end()).row,
+            r_Suffix_Verb_Step2c(self.at_end()).row,
+            r_Suffix_Noun_Step1b(self.at_end()).row,
+            r_Suffix_Noun_Step2a(self.at_end()).row,
+            r_Suffix_Noun_Step2b(self.at_end()).row,
+            r_Suffix_Noun_Step2c1(self.at_end()).row,
+            r_Suffix_Noun_Step2c2(self.at_end()).row,
+            r_Suffix_Noun_Step3(self.at_end()).row,
+            r_Suffix_All_alef_maqsura(self.at_end()).row,
+        ]
+    }
 
-fn write_last_row(output: &mut impl Write, word: &[u8]) -> io::Result<()>
-    requires { Spelt word.now (length word.now) × (length word.now ≤ work_size) }
-{
-    write_next(output, r_Suffix_All_alef_maqsura(at_end(word)).row)
-}
-
-fn write_front_rows(output: &mut impl Write, word: &[u8], context: Context) -> io::Result<()>
-    requires { Spelt word.now (length word.now) × (length word.now ≤ work_size) }
-{
-    let a = r_Prefix_Step1(at_front(word));
-    write_next(output, a.row)?;
-    let b = r_Prefix_Step2(a.tried.env);
-    write_next(output, b.row)?;
-    let c = r_Prefix_Step3a_Noun(b.tried.env);
-    write_next(output, c.row)?;
-    let d = r_Prefix_Step3b_Noun(c.tried.env);
-    write_next(output, d.row)?;
-    let e = r_Prefix_Step3_Verb(d.tried.env);
-    write_next(output, e.row)?;
-    let f = step4_verb(e.tried.env, context);
-    write_next(output, f.searched.row)
-}
-
-fn write_all_rows(output: &mut impl Write, word: &[u8]) -> io::Result<()>
-    requires { Spelt word.now (length word.now) × (length word.now ≤ work_size) }
-{
-    let c = checked(word, word.len());
-    write!(output, "{}", c.row)?;
-    write_verb_rows(output, word)?;
-    write_first_noun_rows(output, word)?;
-    write_other_noun_rows(output, word)?;
-    write_last_row(output, word)?;
-    write_front_rows(output, word, c.context)
+    fn front_rows(&self, mut context: Context) -> [usize; 6] {
+        let first = r_Prefix_Step1(self.at_front());
+        let second = r_Prefix_Step2(left_by(first.outcome));
+        let noun_a = r_Prefix_Step3a_Noun(left_by(second.outcome));
+        let noun_b = r_Prefix_Step3b_Noun(left_by(noun_a.outcome));
+        let verb = r_Prefix_Step3_Verb(left_by(noun_b.outcome));
+        let last = r_Prefix_Step4_Verb(left_by(verb.outcome), &mut context);
+        [
+            first.row, second.row, noun_a.row, noun_b.row, verb.row, last.row,
+        ]
+    }
 }
 
 // The rows, or the refusal of a word that no step gets.
-pub fn write_rows(output: &mut impl Write, word: &[u8]) -> io::Result<()> {
-    if word.len() > LONGEST {
-        return write!(output, "?1");
+pub fn write_rows(output: &mut impl Write, bytes: &[u8]) -> io::Result<()> {
+    let word = match Word::new(bytes) {
+        Ok(word) => word,
+        Err(refusal) => return write!(output, "?{}", refusal.code()),
+    };
+    let kind = checked(word.bytes);
+    write!(output, "{}", kind.row)?;
+    for row in word.ending_rows() {
+        write!(output, " {row}")?;
     }
-    if well_formed(word) {
-        return write_all_rows(output, word);
+    for row in word.front_rows(kind.outcome) {
+        write!(output, " {row}")?;
     }
-    write!(output, "?2")
+    Ok(())
 }

@@ -12,7 +12,7 @@ use Rattle.definition.specs.Words.{Word, pick, begins_with, ends_with}
 use Rattle.definition.specs.Tables.{Row, Table}
 use Rattle.definition.specs.Search.{row_at, longer, longest}
 use Rattle.definition.proofs.Match.{by, same_eq, begins_split, begins_of, ends_split, ends_of}
-use Rattle.definition.proofs.Found.{Found, longest-found}
+use Rattle.definition.proofs.Found.{Found, longest-found, no_letters}
 use Rattle.utf8.specs.Utf8.{Scalars, encode}
 use Rattle.utf8.specs.Places.{size}
 use Rattle.utf8.proofs.Places.{size-append, size_mono, size_strict}
@@ -75,16 +75,12 @@ module _ (m n : Word → Bool) (agree : (k : Word) → Scalars k → n (encode k
   longer-bytes true k t r e (inr f) = ap (λ (c : Bool). pick c 0 (suc r))
       (le-leb (length (row_at (byte_table t) r).letters) (length (encode k.letters)) (omega (arith, empty_bytes)) ∙ sym (le-leb (length (row_at t r).letters) (length k.letters) (omega (arith, empty_letters))))
     where
-      no_row : (u : Table) → length (row_at u (length u)).letters ≡ 0
-      no_row [] = refl
-      no_row (j ∷ u) = no_row u
-
       no_bytes : (u : Table) → length (row_at (byte_table u) (length u)).letters ≡ 0
       no_bytes [] = refl
       no_bytes (j ∷ u) = no_bytes u
 
       empty_letters : length (row_at t r).letters ≡ 0
-      empty_letters = ap (λ (i : ℕ). length (row_at t i).letters) f ∙ no_row t
+      empty_letters = ap (λ (i : ℕ). length (row_at t i).letters) f ∙ no_letters t
 
       empty_bytes : length (row_at (byte_table t) r).letters ≡ 0
       empty_bytes = ap (λ (i : ℕ). length (row_at (byte_table t) i).letters) f ∙ no_bytes t

@@ -1,4 +1,4 @@
--- One turn of a comparison of a row's key u with the text s, of which the first q bytes are the same. Assumes nothing.
+-- One turn of a comparison of a row with the text, of which the first q bytes that are read are the same. Assumes nothing.
 use mathlib.Core.Path.{◌≡◌, sym}
 use mathlib.Core.Bool.{Bool, true, false}
 use mathlib.Core.List.{List}
@@ -10,30 +10,41 @@ use Rattle.snowball.specs.Search.{lcp}
 use Rattle.snowball.proofs.Order.{lcp-left, lcp_right, all_the_row, all_the_text, text_less, text-more, one_more}
 
 -- what a comparison answers
-abbrev pub Answer : List ℕ → List ℕ → ℕ → Bool → Type 0
-Answer u s q less = (q ≡ lcp u s) × (less ≡ before s u)
+pub record Answer (u s : List ℕ) (q : ℕ) (less : Bool) : Type 0 where
+  pub common_value : q ≡ lcp u s
+  pub less_value : less ≡ before s u
 
 turned : (u s : List ℕ) (q : ℕ) (less : Bool) → (lcp u s ≡ q) × (before s u ≡ less) → Answer u s q less
-turned u s q less r = (sym r.0, sym r.1)
+turned u s q less r = record { common_value = sym r.0; less_value = sym r.1 }
 
-module _ (u s : List ℕ) (q : ℕ) (i : q ≤ lcp u s) where
-  pub in_text : q ≤ length s
-  in_text = omega (arith, lcp_right u s)
+module _ (read : List ℕ → List ℕ) (all : (s : List ℕ) → length (read s) ≡ length s) (row text : List ℕ) (q : ℕ) (i : q ≤ lcp (read row) (read text)) where
+  in_text : q ≤ length text
+  in_text = omega (arith, lcp_right (read row) (read text), all text)
 
-  pub row_done : length u ≤ q → Answer u s q false
-  row_done d = turned u s q false (all_the_row q u s i (let z : lcp u s ≤ length u = lcp-left u s in omega arith))
+  pub row_done : q ≡ length row → Answer (read row) (read text) q false
+  row_done d = turned (read row) (read text) q false (all_the_row q (read row) (read text) i (omega (arith, all row, lcp-left (read row) (read text))))
 
-  module _ (m : q < length u) where
-    pub text-done : length s ≤ q → Answer u s q true
-    text-done d = turned u s q true (all_the_text q u s i (omega (arith, in_text)) m)
+  module _ (m : q < length row) where
+    in_row : q < length (read row)
+    in_row = omega (arith, all row)
 
-    -- the next byte of the text is a, that of the row is b
-    module _ (l : q < length s) (a b : ℕ) (ea : get_or s q 0 ≡ a) (eb : get_or u q 0 ≡ b) where
-      pub less_here : a < b → Answer u s q true
-      less_here h = turned u s q true (text_less q u s i m l (omega arith))
+    pub text_done : q ≡ length text → Answer (read row) (read text) q true
+    text_done d = turned (read row) (read text) q true (all_the_text q (read row) (read text) i (omega (arith, all text)) in_row)
 
-      pub more_here : b < a → Answer u s q false
-      more_here h = turned u s q false (text-more q u s i m l (omega arith))
+    module _ (ne : q ≡ length text → ⊥) where
+      pub below : q < length text
+      below = omega (arith, in_text)
 
-      pub same_here : b ≤ a → a ≤ b → q + 1 ≤ lcp u s
-      same_here h g = one_more q u s i m l (omega arith)
+      left : q < length (read text)
+      left = omega (arith, below, all text)
+
+      -- the next byte of the text is a, that of the row is b
+      module _ (a b : ℕ) (ea : a ≡ get_or (read text) q 0) (eb : b ≡ get_or (read row) q 0) where
+        pub less_here : a < b → Answer (read row) (read text) q true
+        less_here h = turned (read row) (read text) q true (text_less q (read row) (read text) i in_row left (omega arith))
+
+        pub more_here : b < a → Answer (read row) (read text) q false
+        more_here h = turned (read row) (read text) q false (text-more q (read row) (read text) i in_row left (omega arith))
+
+        pub same : b ≤ a → a ≤ b → q + 1 ≤ lcp (read row) (read text)
+        same h k = one_more q (read row) (read text) i in_row left (omega arith)

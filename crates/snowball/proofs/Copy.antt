@@ -1,53 +1,53 @@
--- Bytes copied into an array. Assumes nothing.
-use mathlib.Core.Path.{◌≡◌, sym, ap, ◌∙◌}
+-- What `replace_s` makes of the bytes of the array. Assumes nothing.
+use mathlib.Core.Path.{◌≡◌, refl, sym, ap, ◌∙◌}
 use Prim.Native.Nat.{ℕ, ◌+◌, ◌-◌, ◌≤◌}
 use mathlib.Core.List.{List, ◌++◌}
 use native.Mathlib.Omega.{arith}
-use lib.ListN.{length, take, drop}
-use lib.Seq.{paste, length-paste, take-paste, take-take, take_all, take-length, take-add, length-take-le, drop_at, slice, length-slice}
+use borrow.Rule.Slice.PartMut.{put_mid}
+use lib.ListN.{length, take, drop, length-append, length-drop}
+use lib.Seq.{paste, take-paste, take-take, take-length, take-append-le, take-append-add, length-take-le, drop_at}
+use Rattle.std.proofs.lemmas.List.{drop-take}
+use Rattle.std.proofs.lemmas.Slice.{put_mid-paste}
 use Rattle.snowball.specs.Cut.{replaced}
 
--- what `&text[from..to]` shows
-pub part_is : (text : List ℕ) (from to : ℕ) → from ≤ to → to ≤ length text → take (to - from) (drop from text) ≡ slice from to text
-part_is text from to h l =
-    let e : to ≡ from + (to - from) = omega arith in
-    sym (ap (λ (k : ℕ). drop from (take k text)) e
-    ∙ ap (drop from) (take-add from (to - from) text)
-    ∙ drop_at (take from text) (take (to - from) (drop from text)) from (length-take-le from text (omega arith)))
-
--- a copy of a whole text
-module _ (out out₀ : List ℕ) (at : ℕ) (s : List ℕ) (e : out ≡ paste out₀ at (slice 0 (length s) s) (length s - 0)) (h : at + length s ≤ length out₀) where
-  whole : out ≡ paste out₀ at s (length s)
-  whole = let z : length s - 0 ≡ length s = omega arith in e ∙ (λ j. paste out₀ at (take-length s j) (z j))
-
-  pub whole_length : length out ≡ length out₀
-  whole_length = ap length whole ∙ length-paste out₀ at s (length s) h (omega arith)
-
-  whole-front : take (at + length s) out ≡ take at out₀ ++ s
-  whole-front =
-      ap (take (at + length s)) whole
-      ∙ take-paste out₀ at s (length s) (omega arith) (omega arith)
-      ∙ ap (λ (x : List ℕ). take at out₀ ++ x) (take-length s)
-
--- a copy to the front
-pub front_bytes : (out out₀ s : List ℕ) → out ≡ paste out₀ 0 (slice 0 (length s) s) (length s - 0) → length s ≤ length out₀ → take (length s) out ≡ s
-front_bytes out out₀ s e h =
-    let z : length s ≡ 0 + length s = omega arith in
-    ap (λ (k : ℕ). take k out) z ∙ whole-front out out₀ 0 s e (omega arith)
-
--- what `replace_s` copies: s behind the first bra bytes, and behind it what stood from ket on
-module _ (cur front back s : List ℕ) (bra ket limit : ℕ) (o : bra ≤ ket) (p : ket ≤ limit) (q : limit ≤ length cur)
+-- what stood from ket to limit goes behind the place of s, and then s behind the first bra bytes
+module _ (cur back part s : List ℕ) (bra ket limit : ℕ) (o : bra ≤ ket) (p : ket ≤ limit) (q : limit ≤ length cur)
     (room : limit - (ket - bra) + length s ≤ length cur)
-    (ef : front ≡ paste cur bra (slice 0 (length s) s) (length s - 0))
-    (eb : back ≡ paste front (bra + length s) (slice ket limit cur) (limit - ket)) where
-  pub copied_bytes : take (limit - (ket - bra) + length s) back ≡ replaced (take limit cur) bra ket s
+    (eb : back ≡ paste cur (bra + length s) (drop ket cur) (limit - ket)) (ep : part ≡ s) where
+  abbrev end : ℕ
+  end = bra + length s
+
+  abbrev tail : ℕ
+  tail = limit - ket
+
+  halves : take (end + tail) back ≡ take end cur ++ take tail (drop ket cur)
+  halves = ap (take (end + tail)) eb ∙ take-paste cur end (drop ket cur) tail (omega arith) (omega (arith, length-drop ket cur))
+
+  kept-front : take bra back ≡ take bra (take limit cur)
+  kept-front =
+      sym (take-take bra (end + tail) back (omega arith))
+      ∙ ap (take bra) halves
+      ∙ take-append-le bra (take end cur) (take tail (drop ket cur)) (omega (arith, length-take-le end cur (omega arith)))
+      ∙ take-take bra end cur (omega arith)
+      ∙ sym (take-take bra limit cur (omega arith))
+
+  kept-tail : take tail (drop end back) ≡ drop ket (take limit cur)
+  kept-tail =
+      let l : ket + tail ≡ limit = omega arith in
+      sym (drop-take end tail back)
+      ∙ ap (drop end) halves
+      ∙ drop_at (take end cur) (take tail (drop ket cur)) end (length-take-le end cur (omega arith))
+      ∙ sym (drop-take ket tail cur)
+      ∙ ap (λ (k : ℕ). drop ket (take k cur)) l
+
+  pub copied_bytes : take (limit - (ket - bra) + length s) (put_mid bra (bra + length s - bra) back part) ≡ replaced (take limit cur) bra ket s
   copied_bytes =
-      let part : List ℕ = slice ket limit cur in
-      let n : length part ≡ limit - ket = length-slice ket limit cur q in
-      let lf : length front ≡ length cur = whole_length front cur bra s ef (omega arith) in
-      let a : limit - (ket - bra) + length s ≡ bra + length s + (limit - ket) = omega arith in
-      ap (λ (k : ℕ). take k back) a
-      ∙ ap (take (bra + length s + (limit - ket))) eb
-      ∙ take-paste front (bra + length s) part (limit - ket) (omega arith) (omega arith)
-      ∙ ap (λ (x : List ℕ). x ++ take (limit - ket) part) (whole-front front cur bra s ef (omega arith))
-      ∙ (λ j. sym (take-take bra limit cur (omega arith)) j ++ s ++ take_all (limit - ket) part (omega arith) j)
+      let front : List ℕ = take bra (take limit cur) ++ s in
+      let same : put_mid bra (bra + length s - bra) back part ≡ front ++ drop end back =
+      put_mid-paste bra (bra + length s - bra) back part s (length s) ep (omega arith) refl
+      ∙ (λ i. kept-front i ++ take-length s i ++ drop end back) in
+      let l : length front ≡ end = length-append (take bra (take limit cur)) s ∙ omega (arith, length-take-le limit cur q, length-take-le bra (take limit cur) (omega (arith, length-take-le limit cur q))) in
+      let a : limit - (ket - bra) + length s ≡ length front + tail = omega arith in
+      (λ i. take (a i) (same i))
+      ∙ take-append-add front (drop end back) tail
+      ∙ ap (λ (x : List ℕ). front ++ x) kept-tail

@@ -1,6 +1,6 @@
 -- Where a replacement moves a place, case by case, and a cut at the end of the text. Assumes nothing.
 use mathlib.Core.Path.{◌≡◌, refl, sym, ap, ◌∙◌}
-use Prim.Native.Nat.{ℕ, ◌+◌, ◌-◌, ◌≤◌, ◌<◌}
+use Prim.Native.Nat.{ℕ, ◌+◌, ◌-◌, ◌≤◌, ◌<◌, min}
 use mathlib.Core.List.{List, [], ◌++◌, append-nil}
 use native.Mathlib.Omega.{arith}
 use lib.ListN.{take}
@@ -19,6 +19,10 @@ module _ (place bra ket n : ℕ) where
   pub moved_before : place < ket → place ≤ bra → place ≡ moved place bra ket n
   moved_before h g = rw (lt-leb ket place h, le-ltb bra place g) refl
 
+  -- the two together
+  pub moved_least : place < ket → min place bra ≡ moved place bra ket n
+  moved_least h = by_le place bra (λ g. let e : min place bra ≡ place = omega arith in e ∙ moved_before h g) (λ g. let e : min place bra ≡ bra = omega arith in e ∙ moved_inside h g)
+
 -- ---- a cut at the end of the text
 module _ (bra limit : ℕ) (h : bra ≤ limit) where
   pub tail_bytes : (cur : List ℕ) → take bra cur ≡ replaced (take limit cur) bra limit []
@@ -29,14 +33,8 @@ module _ (bra limit : ℕ) (h : bra ≤ limit) where
       ∙ append-nil (take bra (take limit cur))
       ∙ take-take bra limit cur h)
 
-  pub tail_moved : (place : ℕ) → place ≤ limit → bra < place → bra ≡ moved place bra limit 0
-  tail_moved place l g =
+  pub tail_least : (place : ℕ) → place ≤ limit → min place bra ≡ moved place bra limit 0
+  tail_least place l =
       by_le limit place
-      (λ k. let e : bra ≡ place - (limit - bra) + 0 = omega arith in e ∙ moved-behind place bra limit 0 k)
-      (λ k. moved_inside place bra limit 0 k g)
-
-  pub tail_stays : (place : ℕ) → place ≤ limit → place ≤ bra → place ≡ moved place bra limit 0
-  tail_stays place l g =
-      by_le limit place
-      (λ k. let e : place ≡ place - (limit - bra) + 0 = omega arith in e ∙ moved-behind place bra limit 0 k)
-      (λ k. moved_before place bra limit 0 k g)
+      (λ k. let e : min place bra ≡ place - (limit - bra) + 0 = omega arith in e ∙ moved-behind place bra limit 0 k)
+      (λ k. moved_least place bra limit 0 k)

@@ -7,13 +7,11 @@ use Prim.Native.Nat.{ℕ, ◌+◌, ◌-◌, ◌/◌, ◌≤◌, ◌<◌}
 use native.Mathlib.Omega.{arith}
 use native.Mathlib.Nat.{eq-or-lt_of_le}
 use lib.ListN.{length, get_or}
-use lib.Dec.{leb}
-use borrow.Author.Tests.{leb-true, leb-false}
 use Rattle.definition.proofs.Match.{clash}
 use Rattle.snowball.specs.Rows.{before}
 use Rattle.snowball.specs.Search.{lcp, Halved}
 use Rattle.snowball.proofs.Table.{Rows}
-use Rattle.snowball.proofs.Order.{bool_case, lcp_sym, ultra, between}
+use Rattle.snowball.proofs.Order.{lcp_sym, ultra, between}
 
 -- what is known of a row that was compared and is not after s, with c its bytes in common
 abbrev Passed : List (List ℕ) → List ℕ → ℕ → ℕ → Type 0
@@ -37,8 +35,8 @@ pub record Half (us : List (List ℕ)) (s : List ℕ) (i j ci cj : ℕ) (f : Boo
   pub high : ((j ≡ length us) × (cj ≡ 0)) ⊎ Beyond us s j cj
   pub first : f ≡ true → j ≡ 1
 
--- after a row was compared, and the range cut; d is the range's width before
-pub record Cut (us : List (List ℕ)) (s : List ℕ) (d i j ci cj : ℕ) (f : Bool) : Type 0 where
+-- after a row was compared, and the range cut
+pub record Cut (us : List (List ℕ)) (s : List ℕ) (i j ci cj : ℕ) (f : Bool) : Type 0 where
   pub order : i ≤ j
   pub within : i < length us
   pub inside : j ≤ length us
@@ -46,8 +44,6 @@ pub record Cut (us : List (List ℕ)) (s : List ℕ) (d i j ci cj : ℕ) (f : Bo
   pub low : ((i ≡ 0) × (ci ≡ 0)) ⊎ Passed us s i ci
   pub high : ((j ≡ length us) × (cj ≡ 0)) ⊎ Beyond us s j cj
   pub first : f ≡ true → (j ≤ 1) × ((j ≡ 0) ⊎ Passed us s i ci)
-  pub fall : (j - i < d) ⊎ (d ≡ 1)
-  pub narrow : j - i ≤ d
 
 pub start : (us : List (List ℕ)) (s : List ℕ) → 1 ≤ length us → Half us s 0 (length us) 0 0 false
 start us s h = record {
@@ -95,7 +91,7 @@ module _ (us : List (List ℕ)) (s : List ℕ) (rise : (a b : ℕ) → a < b →
       mid_high : k < j
       mid_high = omega (arith, H.apart)
 
-      cut_high : (c : ℕ) → before s (get_or us k []) ≡ true → c ≡ lcp (get_or us k []) s → Cut us s (j - i) i k ci c f
+      cut_high : (c : ℕ) → before s (get_or us k []) ≡ true → c ≡ lcp (get_or us k []) s → Cut us s i k ci c f
       cut_high c b q = record {
         order = mid_low;
         within = omega (arith, H.apart, H.inside);
@@ -104,11 +100,9 @@ module _ (us : List (List ℕ)) (s : List ℕ) (rise : (a b : ℕ) → a < b →
         low = H.low;
         high = inr (omega (arith, mid_high, H.inside), b, q);
         first = λ z. let o = H.first z in (omega (arith, mid_high), inl (omega (arith, mid_high)));
-        fall = inl (omega (arith, H.apart));
-        narrow = omega (arith, H.apart);
       }
 
-      cut_low : (c : ℕ) → before s (get_or us k []) ≡ false → c ≡ lcp (get_or us k []) s → Cut us s (j - i) k j c cj f
+      cut_low : (c : ℕ) → before s (get_or us k []) ≡ false → c ≡ lcp (get_or us k []) s → Cut us s k j c cj f
       cut_low c b q = record {
         order = omega (arith, mid_high);
         within = omega (arith, mid_high, H.inside);
@@ -117,22 +111,14 @@ module _ (us : List (List ℕ)) (s : List ℕ) (rise : (a b : ℕ) → a < b →
         low = inr (b, q);
         high = H.high;
         first = λ z. (omega (arith, H.first z), inr (b, q));
-        fall = halves;
-        narrow = omega arith;
       }
-        where
-          halves : (j - k < j - i) ⊎ (j - i ≡ 1)
-          halves = ⊎_elim (λ z. inr (omega (arith, H.apart))) (λ z. inl (omega (arith, H.apart))) (two (j - i))
-            where
-              two : (n : ℕ) → (n ≤ 1) ⊎ (1 < n)
-              two n = ⊎_elim (λ e. inl (leb-true n 1 e)) (λ e. inr (leb-false n 1 e)) (bool_case (leb n 1))
 
-pub recast : {us : List (List ℕ)} {s : List ℕ} {d i j ci cj i' j' ci' cj' : ℕ} {f : Bool} → i ≡ i' → j ≡ j' → ci ≡ ci' → cj ≡ cj' → Cut us s d i' j' ci' cj' f → Cut us s d i j ci cj f
-recast {us} {s} {d} {i} {j} {ci} {cj} {i'} {j'} {ci'} {cj'} {f} a b p q C =
-    subst (λ (n : ℕ). Cut us s d n j ci cj f) (sym a)
-    (subst (λ (n : ℕ). Cut us s d i' n ci cj f) (sym b)
-    (subst (λ (n : ℕ). Cut us s d i' j' n cj f) (sym p)
-    (subst (λ (n : ℕ). Cut us s d i' j' ci' n f) (sym q) C)))
+recast : {us : List (List ℕ)} {s : List ℕ} {i j ci cj i' j' ci' cj' : ℕ} {f : Bool} → i ≡ i' → j ≡ j' → ci ≡ ci' → cj ≡ cj' → Cut us s i' j' ci' cj' f → Cut us s i j ci cj f
+recast {us} {s} {i} {j} {ci} {cj} {i'} {j'} {ci'} {cj'} {f} a b p q C =
+    subst (λ (n : ℕ). Cut us s n j ci cj f) (sym a)
+    (subst (λ (n : ℕ). Cut us s i' n ci cj f) (sym b)
+    (subst (λ (n : ℕ). Cut us s i' j' n cj f) (sym p)
+    (subst (λ (n : ℕ). Cut us s i' j' ci' n f) (sym q) C)))
 
 -- one turn of the loop, at row k in the middle
 module _ {us : List (List ℕ)} {ns s : List ℕ} (R : Rows us ns) {i j ci cj : ℕ} {f : Bool} (H : Half us s i j ci cj f) where
@@ -142,24 +128,25 @@ module _ {us : List (List ℕ)} {ns s : List ℕ} (R : Rows us ns) {i j ci cj : 
   pub in_rows : middle < length us
   in_rows = let m : middle < j = mid_high us s R.rise H middle refl in omega (arith, H.inside)
 
-  pub in_lens : middle < length ns
-  in_lens = omega (arith, in_rows, R.ns_length)
-
   module _ (u : List ℕ) (e : get_or us middle [] ≡ u) where
-    pub row-size : length u ≡ get_or ns middle 0
-    row-size = ap length (sym e) ∙ R.size middle in_rows
-
     pub shares : (m : ℕ) → m ≤ ci → m ≤ cj → m ≤ lcp u s
     shares m a b = subst (λ (v : List ℕ). m ≤ lcp v s) e (skip us s R.rise H middle m (mid_low us s R.rise H middle refl) (mid_high us s R.rise H middle refl) a b)
 
-    pub to_high : (c : ℕ) → true ≡ before s u → c ≡ lcp u s → Cut us s (j - i) i middle ci c f
+    to_high : (c : ℕ) → true ≡ before s u → c ≡ lcp u s → Cut us s i middle ci c f
     to_high c b q = cut_high us s R.rise H middle refl c (ap (before s) e ∙ sym b) (q ∙ ap (λ (v : List ℕ). lcp v s) (sym e))
 
-    pub to_low : (c : ℕ) → false ≡ before s u → c ≡ lcp u s → Cut us s (j - i) middle j c cj f
+    to_low : (c : ℕ) → false ≡ before s u → c ≡ lcp u s → Cut us s middle j c cj f
     to_low c b q = cut_low us s R.rise H middle refl c (ap (before s) e ∙ sym b) (q ∙ ap (λ (v : List ℕ). lcp v s) (sym e))
 
+    -- the range that a comparison leaves
+    pub turned : (c : ℕ) (less : Bool) {i' j' ci' cj' : ℕ} → c ≡ lcp u s → less ≡ before s u
+        → ((less ≡ true) × (i' ≡ i) × (j' ≡ middle) × (ci' ≡ ci) × (cj' ≡ c)) ⊎ ((less ≡ false) × (i' ≡ middle) × (j' ≡ j) × (ci' ≡ c) × (cj' ≡ cj))
+        → Cut us s i' j' ci' cj' f
+    turned c less q l (inl w) = recast w.1 w.2 w.3 w.4 (to_high c (sym w.0 ∙ l) q)
+    turned c less q l (inr w) = recast w.1 w.2 w.3 w.4 (to_low c (sym w.0 ∙ l) q)
+
 -- what the loop does after the cut
-module _ {us : List (List ℕ)} {s : List ℕ} {d i j ci cj : ℕ} {f : Bool} (C : Cut us s d i j ci cj f) where
+module _ {us : List (List ℕ)} {s : List ℕ} {i j ci cj : ℕ} {f : Bool} (C : Cut us s i j ci cj f) where
   pub again : 1 < j - i → Half us s i j ci cj f
   again h = record {
     apart = omega arith;
@@ -169,9 +156,6 @@ module _ {us : List (List ℕ)} {s : List ℕ} {d i j ci cj : ℕ} {f : Bool} (C
     high = C.high;
     first = λ e. let o : j ≤ 1 = (C.first e).0 in absurd (omega arith);
   }
-
-  pub again_less : 1 < j - i → j - i < d
-  again_less h = ⊎_elim (λ e. e) (λ e. absurd (omega (arith, C.narrow))) C.fall
 
   pub again-first : j - i ≤ 1 → i ≤ 0 → (j ≡ i → ⊥) → Half us s i j ci cj true
   again-first h z n = record {
@@ -189,7 +173,7 @@ module _ {us : List (List ℕ)} {s : List ℕ} {d i j ci cj : ℕ} {f : Bool} (C
       (λ h. inr (subst (λ (n : ℕ). before s (get_or us n []) ≡ true) e h.1))
       C.high
 
-  -- the three ways out
+  -- the way out behind the first row
   pub out_later : j - i ≤ 1 → 0 < i → Halved us s i ci
   out_later h l = record {
     in_table = C.within;
@@ -199,22 +183,3 @@ module _ {us : List (List ℕ)} {s : List ℕ} {d i j ci cj : ℕ} {f : Bool} (C
       above : (i ≡ j) ⊎ (i < j) → j ≡ i + 1
       above (inl e) = let z : i ≡ 0 = C.meet (sym e) in absurd (omega arith)
       above (inr e) = omega arith
-
-  pub out-met : j ≡ i → Halved us s i ci
-  out-met e =
-      let z : i ≡ 0 = C.meet e in
-      let w : i < length us = C.within in
-      let up : before s (get_or us i []) ≡ true = ⊎_elim (λ h. absurd (omega (arith, h.0))) (λ h. subst (λ (n : ℕ). before s (get_or us n []) ≡ true) e h.1) C.high in
-      record {
-        in_table = w;
-        at = ⊎_elim (λ p. inl (z, p.1, subst (λ (n : ℕ). before s (get_or us n []) ≡ true) z up)) (λ p. absurd (clash up p.0)) C.low;
-      }
-
-  pub out_first : j - i ≤ 1 → i ≤ 0 → (j ≡ i → ⊥) → f ≡ true → Halved us s i ci
-  out_first h z n t = record {
-    in_table = C.within;
-    at = ⊎_elim (λ e. absurd (n (omega arith))) (λ p. inr (p.0, p.1, next_high (omega (arith, C.order, ne)))) (C.first t).1;
-  }
-    where
-      ne : i < j
-      ne = ⊎_elim (λ e. absurd (n (sym e))) (λ e. e) (eq-or-lt_of_le C.order)

@@ -8,10 +8,11 @@ pub mod Read
 pub mod Longest
 pub mod Bytes
 pub mod Answers
-pub mod Owned
+pub mod Searched
 pub mod Copy
 pub mod Cut
 pub mod Places
+pub mod Counting
 pub mod Match
 pub mod Standing
 pub mod Slicing

@@ -7,11 +7,11 @@ use Prim.Native.Nat.{ℕ, ◌+◌, ◌≤◌, ◌<◌, zero-le}
 use native.Mathlib.Nat.{eq-or-lt_of_le}
 use native.Mathlib.Omega.{arith}
 use lib.ListN.{length, get_or}
-use lib.Dec.{leb}
-use borrow.Author.Tests.{leb-true, leb-false}
-use Rattle.snowball.specs.Rows.{before, no_link}
+use Rattle.std.proofs.Common.{Option, Some, None}
+use Rattle.snowball.specs.Rows.{before}
 use Rattle.snowball.specs.Search.{lcp, Halved, Walked, hit, out, on}
-use Rattle.snowball.proofs.Order.{bool_case, Begins, lcp_right, lcp_sym, lcp_self, ultra, between, before_trans, not_begin, not_before}
+use Rattle.snowball.proofs.Order.{Begins, lcp_right, lcp_sym, lcp_self, ultra, between, before_trans, not_begin, not_before}
+use Rattle.definition.proofs.Match.{by_le}
 use Rattle.snowball.proofs.Table.{Table}
 
 -- what is known of row i where the walk stands at it: every row that is in the text is the beginning of row i, and of those beginnings the ones of at most q bytes are in the text and no others
@@ -30,16 +30,13 @@ pub record Longest (us : List (List ℕ)) (s : List ℕ) (r : ℕ) : Type 0 wher
 abbrev pub Nothing : List (List ℕ) → List ℕ → Type 0
 Nothing us s = (k : ℕ) → k < length us → Begins (get_or us k []) s → ⊥
 
-two : (m n : ℕ) → (m ≤ n) ⊎ (n < m)
-two m n = ⊎_elim (λ e. inl (leb-true m n e)) (λ e. inr (leb-false m n e)) (bool_case (leb m n))
-
 self : (u : List ℕ) → Begins u u
 self u = let e : lcp u u ≡ length u = lcp_self u in omega arith
 
 flip : (n : ℕ) (u v : List ℕ) → n ≤ lcp u v → n ≤ lcp v u
 flip n u v h = subst (λ (m : ℕ). n ≤ m) (lcp_sym u v) h
 
-module _ {us : List (List ℕ)} {ns js : List ℕ} (t : Table us ns js) (s : List ℕ) where
+module _ {us : List (List ℕ)} {ns : List ℕ} {js : List (Option ℕ)} (t : Table us ns js) (s : List ℕ) where
   K : ℕ → List ℕ
   K k = get_or us k []
 
@@ -62,12 +59,12 @@ module _ {us : List (List ℕ)} {ns js : List ℕ} (t : Table us ns js) (s : Lis
     row_covers : (k : ℕ) → k < length us → Begins (get_or us k []) s → Begins (get_or us k []) (get_or us i [])
     unfolding K
     row_covers k h m =
-        ⊎_elim (λ (le : k ≤ i). ⊎_elim
+        by_le k i
+        (λ le. ⊎_elim
         (λ ki. subst (λ (x : ℕ). Begins (K k) (K x)) ki (self (K k)))
         (λ ki. ⊎_elim (λ p. subst (λ (x : List ℕ). Begins (K k) x) (sym p) m) (λ p. between (length (K k)) (K k) (K i) s (t.rows.rise k i ki l) p m) (not_before s (K i) b))
         (eq-or-lt_of_le le))
-        (λ (gt : i < k). ⊎_elim (λ z. absurd (omega arith)) (λ z. absurd (after (i + 1) z k (omega arith) h m)) n)
-        (two k i)
+        (λ gt. ⊎_elim (λ z. absurd (omega arith)) (λ z. absurd (after (i + 1) z k (omega arith) h m)) n)
 
     ready_row : Ready us s i q
     unfolding K
@@ -91,7 +88,7 @@ module _ {us : List (List ℕ)} {ns js : List ℕ} (t : Table us ns js) (s : Lis
       here = R.yes i l (self (K i)) h;
       above = λ k ki m.
           let c : Begins (K k) (K i) = R.covers k (omega arith) m in
-          ⊎_elim (λ z. absurd (not_begin (K k) (K i) (t.rows.rise k i ki l) (flip (length (K i)) (K k) (K i) (omega arith)))) (λ z. z) (two (length (K i)) (length (K k)));
+          by_le (length (K i)) (length (K k)) (λ z. absurd (not_begin (K k) (K i) (t.rows.rise k i ki l) (flip (length (K i)) (K k) (K i) (omega arith)))) (λ z. z);
       most = λ k kl m. let c : Begins (K k) (K i) = R.covers k kl m in let d : lcp (K k) (K i) ≤ length (K i) = lcp_right (K k) (K i) in omega arith;
     }
 
@@ -100,29 +97,25 @@ module _ {us : List (List ℕ)} {ns js : List ℕ} (t : Table us ns js) (s : Lis
     unfolding K
     shorter h k kl m =
         let c : Begins (K k) (K i) = R.covers k kl m in
-        ⊎_elim (λ z. absurd (R.not_in i l (self (K i)) h (ultra (length (K i)) (K i) (K k) s (flip (length (K i)) (K k) (K i) (omega arith)) (omega arith)))) (λ z. z) (two (length (K i)) (length (K k)))
+        by_le (length (K i)) (length (K k)) (λ z. absurd (R.not_in i l (self (K i)) h (ultra (length (K i)) (K i) (K k) s (flip (length (K i)) (K k) (K i) (omega arith)) (omega arith)))) (λ z. z)
 
-    out-nothing : q < length (get_or us i []) → get_or js i 0 ≡ no_link → Nothing us s
+    out-nothing : q < length (get_or us i []) → get_or js i None ≡ None → Nothing us s
     out-nothing h e k kl m = t.unlinked i l e k kl (R.covers k kl m) (shorter h k kl m)
 
-    module _ (h : q < length (get_or us i [])) (ne : get_or js i 0 ≡ no_link → ⊥) where
-      j : ℕ
-      j = get_or js i 0
-
+    module _ (h : q < length (get_or us i [])) (j : ℕ) (e : get_or js i None ≡ Some j) where
       link : Begins (get_or us j []) (get_or us i [])
-      unfolding j
-      link = t.link_begins i l ne
+      link = t.link_begins i j l e
 
       up : (k : ℕ) → Begins (get_or us k []) (get_or us j []) → Begins (get_or us k []) (get_or us i [])
       unfolding K
       up k b = let d : lcp (K k) (K j) ≤ length (K j) = lcp_right (K k) (K j) in ultra (length (K k)) (K k) (K j) (K i) b (omega (arith, link))
 
-      on_ready : Ready us s (get_or js i 0) q
-      unfolding K j
+      on_ready : Ready us s j q
+      unfolding K
       on_ready = record {
         covers = λ k kl m.
             let c : Begins (K k) (K i) = R.covers k kl m in
-            let z : length (K k) ≤ length (K j) = t.link_longest i l ne k kl c (shorter h k kl m) in
+            let z : length (K k) ≤ length (K j) = t.link_longest i j l e k kl c (shorter h k kl m) in
             ultra (length (K k)) (K k) (K i) (K j) c (flip (length (K k)) (K j) (K i) (omega (arith, link)));
         yes = λ k kl b o. R.yes k kl (up k b) o;
         not_in = λ k kl b o m. R.not_in k kl (up k b) o m;
@@ -131,7 +124,7 @@ module _ {us : List (List ℕ)} {ns js : List ℕ} (t : Table us ns js) (s : Lis
   walked : (q i r : ℕ) → i < length us → Ready us s i q → Walked ns js q i r → Longest us s r ⊎ ((r ≡ length ns) × Nothing us s)
   walked q i r l R (hit h) = inl (hit-longest i q l R (omega (arith, t.rows.size i l)))
   walked q i r l R (out h e) = inr (refl, out-nothing i q l R (omega (arith, t.rows.size i l)) e)
-  walked q i r l R (on h ne w) = walked q (get_or js i 0) r (omega (arith, t.smaller i l ne)) (on_ready i q l R (omega (arith, t.rows.size i l)) ne) w
+  walked q i r l R (on {j = j} h e w) = walked q j r (omega (arith, t.smaller i j l e)) (on_ready i q l R (omega (arith, t.rows.size i l)) j e) w
 
   -- the halving and the walk together
   pub found : (i q r : ℕ) → Halved us s i q → Walked ns js q i r → Longest us s r ⊎ ((r ≡ length ns) × Nothing us s)

@@ -4,25 +4,29 @@ use Prim.Native.Nat.{ℕ, ◌+◌, ◌-◌, ◌≤◌, ◌<◌}
 use mathlib.Core.Bool.{Bool, true, false}
 use mathlib.Core.List.{List, ◌++◌, append_assoc}
 use native.Mathlib.Omega.{arith}
+use lib.Dec.{eqb}
 use lib.ListN.{length, take, drop, length-append, length-drop, take-append-drop}
-use lib.Seq.{length-take-le, take_at, take-take, length-slice}
+use lib.Seq.{length-take-le, take_at}
 use borrow.Author.Tests.{lt-ltb, le-ltb}
-use Rattle.definition.specs.Words.{pick, same, begins_with}
-use Rattle.definition.proofs.Match.{by, by_le, clash, same_eq, same_refl, begins_split}
+use Rattle.std.specs.List.{starts_with}
+use Rattle.std.proofs.lemmas.Bool.Decides.{Decides-eqb}
+use Rattle.std.proofs.lemmas.Slice.Eq.{starts_is}
+use Rattle.std.proofs.lemmas.List.{take_rest}
+use Rattle.definition.specs.Words.{pick, begins_with}
+use Rattle.definition.proofs.Match.{by_le, clash, begins_split, begins_of}
 use Rattle.utf8.specs.Utf8.{Scalars, encode}
 use Rattle.utf8.specs.Places.{size, At}
 use Rattle.utf8.proofs.Matches.{iff, front_bytes}
 use Rattle.utf8.proofs.Places.{size-append, drop-size}
 use Rattle.snowball.specs.Match.{stands_at}
-use Rattle.snowball.proofs.Copy.{part_is}
 use Rattle.snowball.proofs.Places.{place_inside, place_outside, scalars-drop}
 
--- ---- a key at the front
+-- ---- a key at the front, by the library's `starts_with`
 
-module _ (w key : List ℕ) where
-  begins_short : length w < length key → begins_with w key ≡ false
-  begins_short h =
-      by (begins_with w key) (λ e. absurd (omega (arith, ap length (begins_split w key e), length-append key (drop (length key) w)))) (λ e. e)
+starts_begins : (r : Bool) (w key : List ℕ) → r ≡ starts_with eqb w key → r ≡ begins_with w key
+starts_begins r w key e =
+    let s = starts_is Decides-eqb w key r e in
+    iff r (begins_with w key) (λ t. begins_of w key (drop (length key) w) (s.0 t)) (λ t. s.1 (drop (length key) w) (begins_split w key t))
 
 -- ---- a key at a place
 
@@ -33,51 +37,11 @@ module _ (t : List ℕ) (n : ℕ) (key : List ℕ) where
   pub stands-end : length t ≤ n → stands_at t n key ≡ false
   stands-end h = ap (λ (b : Bool). pick b (begins_with (drop n t) key) false) (le-ltb n (length t) h)
 
--- what `stands_at` finds
-module _ (text : List ℕ) (cursor limit : ℕ) (key : List ℕ) (h : limit ≤ length text) where
-  n : length (take limit text) ≡ limit
-  n = length-take-le limit text h
-
-  left : length (drop cursor (take limit text)) ≡ limit - cursor
-  left = length-slice cursor limit text h
-
-  -- what `&text[cursor..end]` shows
-  abbrev part : List ℕ
-  part = take (cursor + length key - cursor) (drop cursor text)
-
-  pub at_end_lem : limit ≤ cursor → false ≡ stands_at (take limit text) cursor key
-  at_end_lem l = sym (stands-end (take limit text) cursor key (omega (arith, n)))
-
-  -- a key that stands there ends at limit or before it
-  pub at_fits : stands_at (take limit text) cursor key ≡ true → cursor + length key ≤ limit
-  at_fits e =
-      let c : cursor < limit = by_le limit cursor (λ g. absurd (clash e (sym (at_end_lem g)))) (λ g. g) in
-      let w : drop cursor (take limit text) ≡ key ++ drop (length key) (drop cursor (take limit text)) =
-      begins_split (drop cursor (take limit text)) key (sym (stands-inside (take limit text) cursor key (omega (arith, n))) ∙ e) in
-      omega (arith, left, ap length w, length-append key (drop (length key) (drop cursor (take limit text))))
-
-  module _ (c : cursor < limit) where
-    inside : stands_at (take limit text) cursor key ≡ begins_with (drop cursor (take limit text)) key
-    inside = stands-inside (take limit text) cursor key (omega (arith, n))
-
-    pub at_short : limit - cursor < length key → false ≡ stands_at (take limit text) cursor key
-    at_short l = sym (inside ∙ begins_short (drop cursor (take limit text)) key (omega (arith, left)))
-
-    -- what comparing the key with as many bytes from the cursor on finds
-    pub at_same : (r : Bool) → length key ≤ limit - cursor → (r ≡ true → part ≡ key) → (part ≡ key → r ≡ true)
-        → r ≡ stands_at (take limit text) cursor key
-    unfolding begins_with
-    at_same r l f g =
-        let m : cursor + length key - cursor ≡ length key = omega arith in
-        let e : part ≡ take (length key) (drop cursor (take limit text)) =
-        part_is text cursor (cursor + length key) (omega arith) (omega arith)
-        ∙ sym (ap (drop cursor) (take-take (cursor + length key) limit text (omega arith)))
-        ∙ sym (part_is (take limit text) cursor (cursor + length key) (omega arith) (omega (arith, n)))
-        ∙ ap (λ (k : ℕ). take k (drop cursor (take limit text))) m in
-        iff r (same (take (length key) (drop cursor (take limit text))) key)
-        (λ t. ap (λ (x : List ℕ). same x key) (sym e ∙ f t) ∙ same_refl key)
-        (λ t. g (e ∙ same_eq (take (length key) (drop cursor (take limit text))) key t))
-        ∙ sym inside
+-- what `text[cursor..].starts_with(key)` finds
+pub stands_found : (r : Bool) (t : List ℕ) (n : ℕ) (key : List ℕ) → n < length t → r ≡ starts_with eqb (take (length t - n) (drop n t)) key
+    → r ≡ stands_at t n key
+stands_found r t n key h e =
+    starts_begins r (drop n t) key (e ∙ ap (λ (x : List ℕ). starts_with eqb x key) (take_rest t n)) ∙ sym (stands-inside t n key h)
 
 -- ---- bytes match just where letters do
 

@@ -11,16 +11,12 @@ use lib.Seq.{drop-cons}
 use lib.Dec.{eqb, ltb}
 use borrow.Author.Tests.{eqb-true, eqb-false, eq-eqb, ne_eqb, lt-ltb, le-ltb, ltb-true, ltb-false}
 use Rattle.definition.specs.Words.{pick, both}
-use Rattle.definition.proofs.Match.{both_0, both_1, clash}
+use Rattle.definition.proofs.Match.{by, both_0, both_1, clash}
 use Rattle.snowball.specs.Rows.{before, begins}
 use Rattle.snowball.specs.Search.{lcp}
 
-pub bool_case : (b : Bool) → (b ≡ true) ⊎ (b ≡ false)
-bool_case true = inl refl
-bool_case false = inr refl
-
 same? : (x y : ℕ) → (x ≡ y) ⊎ (x ≡ y → ⊥)
-same? x y = ⊎_elim (λ e. inl (eqb-true x y e)) (λ e. inr (eqb-false x y e)) (bool_case (eqb x y))
+same? x y = by (eqb x y) (λ e. inl (eqb-true x y e)) (λ e. inr (eqb-false x y e))
 
 lcp-same : (x y : ℕ) (u s : List ℕ) → x ≡ y → lcp (x ∷ u) (y ∷ s) ≡ suc (lcp u s)
 unfolding lcp
@@ -139,7 +135,7 @@ not_before (x ∷ s) (y ∷ u) h =
     (same? x y)
   where
     lt_of : (x ≡ y → ⊥) → y ≤ x → y < x
-    lt_of e l = ⊎_elim (λ t. ltb-true y x t) (λ t. absurd (e (let m : x ≤ y = ltb-false y x t in omega arith))) (bool_case (ltb y x))
+    lt_of e l = omega arith
 
 -- past q bytes that they share, the rest decides
 peel_lcp : (q : ℕ) (u s : List ℕ) → q ≤ lcp u s → lcp u s ≡ q + lcp (drop q u) (drop q s)
@@ -182,14 +178,13 @@ true_begins (x ∷ u) (y ∷ s) h =
 -- what a comparison finds at q, where q bytes are the same
 module _ (q : ℕ) (u s : List ℕ) (h : q ≤ lcp u s) where
   pub all_the_row : q ≡ length u → (lcp u s ≡ q) × (before s u ≡ false)
-  all_the_row e = (let l : lcp u s ≤ length u = lcp-left u s in omega arith, ⊎_elim (λ t. absurd (not_begin s u t (omega arith))) (λ t. t) (bool_case (before s u)))
+  all_the_row e = (let l : lcp u s ≤ length u = lcp-left u s in omega arith, by (before s u) (λ t. absurd (not_begin s u t (omega arith))) (λ t. t))
 
   pub all_the_text : q ≡ length s → q < length u → (lcp u s ≡ q) × (before s u ≡ true)
   all_the_text e l = (
     let r : lcp u s ≤ length s = lcp_right u s in omega arith,
-    ⊎_elim (λ t. t)
-        (λ t. absurd (⊎_elim (λ p. let z : length u ≡ length s = ap length p in omega arith) (λ p. not_begin u s p (let y : lcp u s ≡ lcp s u = lcp_sym u s in omega arith)) (not_before s u t)))
-        (bool_case (before s u)),
+    by (before s u) (λ t. t)
+        (λ t. absurd (⊎_elim (λ p. let z : length u ≡ length s = ap length p in omega arith) (λ p. not_begin u s p (let y : lcp u s ≡ lcp s u = lcp_sym u s in omega arith)) (not_before s u t))),
   )
 
   module _ (lu : q < length u) (ls : q < length s) where

@@ -10,7 +10,7 @@ use Rattle.utf8.specs.Utf8.{Scalars, encode}
 use Rattle.utf8.specs.Places.{size, starts, At}
 use Rattle.definition.proofs.Match.{by_le}
 use Rattle.utf8.proofs.Text.{scalars-left, scalars_right}
-use Rattle.utf8.proofs.Places.{size_up, size_strict, start_at, same}
+use Rattle.utf8.proofs.Places.{size_up, size_strict, start_at}
 
 module _ (cs : List ℕ) (n i : ℕ) (p : At cs n i) where
   -- a place lies within the bytes
@@ -35,11 +35,11 @@ place_after cs zero i p h = absurd (omega (arith, p.1))
 place_after cs (suc n) i p h = omega arith
 
 -- the first byte of a text starts a letter
-pub first-starts : (a cs : List ℕ) (limit n at : ℕ) → take limit a ≡ encode cs → limit ≡ size cs → At cs n at → 0 < at → starts (get_or a 0 0) ≡ true
+pub first-starts : (text cs : List ℕ) (n at : ℕ) → text ≡ encode cs → At cs n at → 0 < at → starts (get_or text 0 0) ≡ true
 unfolding encode
-first-starts a cs limit n at e z p h =
+first-starts text cs n at e p h =
     let pos : 0 < length cs = omega (arith, place_after cs n at p h, p.0) in
-    ap starts (same a cs limit e z 0 (omega (arith, place-within cs n at p))) ∙ start_at cs 0 pos
+    ap (λ (x : List ℕ). starts (get_or x 0 0)) e ∙ start_at cs 0 pos
 
 module _ (cs : List ℕ) (n : ℕ) (s : Scalars cs) where
   both_sides : Scalars (take n cs ++ drop n cs)

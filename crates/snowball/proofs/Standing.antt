@@ -1,10 +1,11 @@
 -- A new environment, and what the functions that move the cursor do to the letters that an environment stands for. Assumes nothing.
 use mathlib.Core.Path.{◌≡◌, sym, ap, ◌∙◌}
 use Prim.Native.Nat.{ℕ, ◌+◌, ◌-◌, ◌≤◌, ◌<◌}
-use mathlib.Core.Bool.{Bool, true, false}
+use mathlib.Core.Bool.{true, false}
 use mathlib.Core.List.{List}
 use native.Mathlib.Omega.{arith}
 use lib.ListN.{length, take, get_or}
+use lib.Seq.{take-length}
 use Rattle.utf8.specs.Utf8.{Scalars, encode}
 use Rattle.utf8.specs.Places.{size, starts, At, NextStart, LastStart}
 use Rattle.utf8.proofs.Places.{next_place, last-place}
@@ -41,23 +42,33 @@ module _ (e : Env) (s : Chars) (st : Stands e s) where
   with_cursor_lem n i p =
       record { scalars = st.scalars; bytes = st.bytes; sized = st.sized; within = st.within; cursor = p; back = st.back }
 
-  pub next_stands : (r : ℕ) → e.cursor < e.limit → NextStart e.current e.limit e.cursor r
-      → Standing e.current e.limit r e.limit_backward (with_cursor s (s.cursor + 1))
-  next_stands r h f =
-      let i : s.cursor < length s.text = place_inside s.text s.cursor e.cursor st.cursor (omega (arith, st.sized)) in
-      with_cursor_lem (s.cursor + 1) r
-      (next_place e.current s.text e.limit st.bytes st.sized e.cursor r s.cursor f st.cursor i)
+  -- the cursor moved over a letter of the text that `text` gives
+  module _ (text : List ℕ) (t : text ≡ take e.limit e.current) where
+    pub encoded : text ≡ encode s.text
+    encoded = t ∙ st.bytes
 
-  module _ (h : 0 < e.cursor) where
-    pub first-start : starts (get_or e.current 0 0) ≡ true
-    first-start = first-starts e.current s.text e.limit s.cursor e.cursor st.bytes st.sized st.cursor h
+    all-encoded : take (length text) text ≡ encode s.text
+    all-encoded = take-length text ∙ encoded
 
-    pub previous_stands : (r : ℕ) → LastStart e.current e.cursor r
-        → Standing e.current e.limit r e.limit_backward (with_cursor s (s.cursor - 1))
-    previous_stands r f =
-        with_cursor_lem (s.cursor - 1) r
-        (last-place e.current s.text e.limit st.bytes st.sized e.cursor r s.cursor f st.cursor
-        (place_after s.text s.cursor e.cursor st.cursor h))
+    pub text-length : length text ≡ e.limit
+    text-length = ap length encoded ∙ sym st.sized
+
+    pub next_stands : (r : ℕ) → e.cursor < e.limit → NextStart text (length text) e.cursor r
+        → Standing e.current e.limit r e.limit_backward (with_cursor s (s.cursor + 1))
+    next_stands r h f =
+        let i : s.cursor < length s.text = place_inside s.text s.cursor e.cursor st.cursor (omega (arith, st.sized)) in
+        with_cursor_lem (s.cursor + 1) r
+        (next_place text s.text (length text) all-encoded (ap length encoded) e.cursor r s.cursor f st.cursor i)
+
+    module _ (h : 0 < e.cursor) where
+      pub first-start : starts (get_or text 0 0) ≡ true
+      first-start = first-starts text s.text s.cursor e.cursor encoded st.cursor h
+
+      pub previous_stands : (r : ℕ) → LastStart text e.cursor r → Standing e.current e.limit r e.limit_backward (with_cursor s (s.cursor - 1))
+      previous_stands r f =
+          with_cursor_lem (s.cursor - 1) r
+          (last-place text s.text (length text) all-encoded (ap length encoded) e.cursor r s.cursor f st.cursor
+          (place_after s.text s.cursor e.cursor st.cursor h))
 
   -- a key at the cursor, on bytes and on letters
   module _ (key cs : List ℕ) (sc : Scalars cs) (k : key ≡ encode cs) where
@@ -65,14 +76,18 @@ module _ (e : Env) (s : Chars) (st : Stands e s) where
     stands-letters =
         (λ i. stands_at (st.bytes i) e.cursor (k i)) ∙ stands-encode s.text cs s.cursor e.cursor st.cursor st.scalars sc
 
-    module _ (f : Bool) (t : f ≡ stands_at (take e.limit e.current) e.cursor key) where
-      pub eq_found : f ≡ true → (true ≡ stands_at s.text s.cursor cs)
+    -- the same of the text that `text` gives
+    module _ (text : List ℕ) (t : text ≡ take e.limit e.current) where
+      pub stands-text : stands_at text e.cursor key ≡ stands_at s.text s.cursor cs
+      stands-text = ap (λ (x : List ℕ). stands_at x e.cursor key) t ∙ stands-letters
+
+      pub eq_found : stands_at text e.cursor key ≡ true → (true ≡ stands_at s.text s.cursor cs)
           × Standing e.current e.limit (e.cursor + length key) e.limit_backward (eq_s s cs)
       eq_found y =
-          let v : stands_at s.text s.cursor cs ≡ true = sym (t ∙ stands-letters) ∙ y in (
+          let v : stands_at s.text s.cursor cs ≡ true = sym stands-text ∙ y in (
             sym v,
             rw (v, k) (with_cursor_lem (s.cursor + length cs) (e.cursor + size cs) (place_match s.text cs s.cursor e.cursor st.cursor v)),
           )
 
-      pub eq_missed : f ≡ false → (false ≡ stands_at s.text s.cursor cs) × Stands e (eq_s s cs)
-      eq_missed y = let v : stands_at s.text s.cursor cs ≡ false = sym (t ∙ stands-letters) ∙ y in (sym v, rw v st)
+      pub eq_missed : stands_at text e.cursor key ≡ false → (false ≡ stands_at s.text s.cursor cs) × Stands e (eq_s s cs)
+      eq_missed y = let v : stands_at s.text s.cursor cs ≡ false = sym stands-text ∙ y in (sym v, rw v st)

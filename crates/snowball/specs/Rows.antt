@@ -1,20 +1,22 @@
 -- Tables in the code: rows of six bytes beside their lengths, links and classes. The test that a table passes, and the definition's table that it stands for.
-use Rattle.std.specs.Prelude.{ℕ, suc, Bool, true, false, not, List, [], ◌∷◌, reverse, length, take, get_or, leb, ltb, eqb}
+use Rattle.std.specs.Prelude.{ℕ, suc, Bool, true, false, not, List, [], ◌∷◌, reverse, length, take, get_or, leb, ltb, eqb, Option, Some, None}
 use Rattle.definition.specs.Words.{Word, pick, both, every}
 use Rattle.definition.specs.Tables.{Row, Table}
 use Rattle.utf8.specs.Utf8.{Scalars, encode}
 
--- the keys of a forward search: of each row as many bytes as its length says
+-- the keys of a search: of each row as many bytes as its length says, in the order in which they are read
+abbrev pub keys_by : (List ℕ → List ℕ) → List (List ℕ) → List ℕ → List (List ℕ)
+keys_by read [] ns = []
+keys_by read (w ∷ ws) [] = read [] ∷ keys_by read ws []
+keys_by read (w ∷ ws) (n ∷ ns) = read (take n w) ∷ keys_by read ws ns
+
+-- the keys of a forward search
 abbrev pub keys : List (List ℕ) → List ℕ → List (List ℕ)
-keys [] ns = []
-keys (w ∷ ws) [] = [] ∷ keys ws []
-keys (w ∷ ws) (n ∷ ns) = take n w ∷ keys ws ns
+keys ws ns = keys_by (λ s. s) ws ns
 
 -- the keys of a backward search: the same, each from its end
 abbrev pub keys_back : List (List ℕ) → List ℕ → List (List ℕ)
-keys_back [] ns = []
-keys_back (w ∷ ws) [] = [] ∷ keys_back ws []
-keys_back (w ∷ ws) (n ∷ ns) = reverse (take n w) ∷ keys_back ws ns
+keys_back ws ns = keys_by reverse ws ns
 
 -- ---- the test: keys rise, lengths and links are right
 
@@ -36,21 +38,21 @@ begins [] s = true
 begins (x ∷ u) [] = false
 begins (x ∷ u) (y ∷ s) = both (eqb x y) (begins u s)
 
+-- what is read of the text begins with what is read of the key
+abbrev pub matches : (List ℕ → List ℕ) → List ℕ → List ℕ → Bool
+matches read text key = begins (read key) (read text)
+
 -- v begins with u and is longer
 abbrev pub proper : List ℕ → List ℕ → Bool
 proper u v = both (begins u v) (ltb (length u) (length v))
 
--- the mark for: no link
-abbrev pub no_link : ℕ
-no_link = 255
-
 -- j is the link of row i, whose key is v: the number of the longest of the keys us that v begins with and is longer than, or none
-abbrev pub link_is : List (List ℕ) → ℕ → List ℕ → ℕ → Bool
-link_is us i v j = pick (eqb j no_link)
-    (every (λ u. not (proper u v)) us)
-    (both (ltb j i) (both (proper (get_or us j []) v) (every (λ u. pick (proper u v) (leb (length u) (length (get_or us j []))) true) us)))
+abbrev pub link_is : List (List ℕ) → ℕ → List ℕ → Option ℕ → Bool
+link_is us i v None = every (λ u. not (proper u v)) us
+link_is us i v (Some j) =
+    both (ltb j i) (both (proper (get_or us j []) v) (every (λ u. pick (proper u v) (leb (length u) (length (get_or us j []))) true) us))
 
-abbrev pub linked : List (List ℕ) → ℕ → List (List ℕ) → List ℕ → Bool
+abbrev pub linked : List (List ℕ) → ℕ → List (List ℕ) → List (Option ℕ) → Bool
 linked us i [] [] = true
 linked us i [] (j ∷ js) = false
 linked us i (v ∷ vs) [] = false
@@ -63,12 +65,12 @@ sized [] (n ∷ ns) = false
 sized (u ∷ us) [] = false
 sized (u ∷ us) (n ∷ ns) = both (both (eqb (length u) n) (both (leb 1 n) (leb n 6))) (sized us ns)
 
--- 1 to 255 rows, with their lengths, that rise: what the halving needs
+-- there are rows, with their lengths, and they rise: what the halving needs
 abbrev pub ordered : List (List ℕ) → List ℕ → Bool
-ordered us ns = both (both (leb 1 (length us)) (leb (length us) no_link)) (both (sized us ns) (rising us))
+ordered us ns = both (leb 1 (length us)) (both (sized us ns) (rising us))
 
 -- and each has its link
-abbrev pub well_formed : List (List ℕ) → List ℕ → List ℕ → Bool
+abbrev pub well_formed : List (List ℕ) → List ℕ → List (Option ℕ) → Bool
 well_formed us ns js = both (ordered us ns) (linked us 0 us js)
 
 -- ---- the definition's table

@@ -1,12 +1,13 @@
 -- What the two searches read and answer, and what their parts find.
-use Rattle.std.specs.Prelude.{ℕ, suc, ◌+◌, ◌-◌, ◌≤◌, ◌<◌, ◌≡◌, ◌⊎◌, Bool, true, false, List, [], ◌∷◌, reverse, length, take, drop, get_or, eqb}
+use Rattle.std.specs.Prelude.{ℕ, suc, ◌+◌, ◌-◌, ◌≤◌, ◌<◌, ◌≡◌, ◌⊎◌, Bool, true, false, List, [], ◌∷◌, reverse, length, take, drop, get_or, eqb, Option, Some, None}
 use Rattle.definition.specs.Words.{Word, pick, begins_with, ends_with}
 use Rattle.definition.specs.Tables.{Table}
 use Rattle.definition.specs.Search.{row_at, longest}
 use Rattle.definition.specs.Facts.{LongestMatch}
 use Rattle.utf8.specs.Places.{size}
-use Rattle.snowball.specs.Rows.{before, no_link}
+use Rattle.snowball.specs.Rows.{before}
 use Rattle.snowball.specs.declared.among.Found.{Found}
+use Rattle.snowball.specs.declared.among.Match.{Match}
 
 -- the bytes of a text from one place up to another
 unfoldable pub between : List ℕ → ℕ → ℕ → List ℕ
@@ -43,6 +44,12 @@ pub record BehindBytes (t : Table) (s : List ℕ) (at : ℕ) (r : Found) : Type 
 
 -- ---- the parts
 
+-- the longest row of t that matches, with its class and the number of its bytes
+pub record LongestRow (match : Word → Bool) (t : Table) (r : Match) : Type 0 where
+  pub row : r.row ≡ longest match t
+  pub class : r.class ≡ (row_at t (longest match t)).class
+  pub len : r.len ≡ length (row_at t (longest match t)).letters
+
 -- how many bytes u and s share from their starts on
 unfoldable pub lcp : List ℕ → List ℕ → ℕ
 lcp [] s = 0
@@ -56,7 +63,7 @@ pub record Halved (us : List (List ℕ)) (s : List ℕ) (row common : ℕ) : Typ
       ⊎ ((before s (get_or us row []) ≡ false) × (common ≡ lcp (get_or us row []) s) × ((row + 1 ≡ length us) ⊎ (before s (get_or us (row + 1) []) ≡ true)))
 
 -- The walk over the links from row i, with q bytes in common: it ends at the first row of at most q bytes, or behind the last row where there is none.
-pub data Walked (ns js : List ℕ) (q : ℕ) : ℕ → ℕ → Type 0 where
+pub data Walked (ns : List ℕ) (js : List (Option ℕ)) (q : ℕ) : ℕ → ℕ → Type 0 where
   hit : {i : ℕ} → get_or ns i 0 ≤ q → Walked ns js q i i
-  out : {i : ℕ} → q < get_or ns i 0 → get_or js i 0 ≡ no_link → Walked ns js q i (length ns)
-  on : {i r : ℕ} → q < get_or ns i 0 → (get_or js i 0 ≡ no_link → ⊥) → Walked ns js q (get_or js i 0) r → Walked ns js q i r
+  out : {i : ℕ} → q < get_or ns i 0 → get_or js i None ≡ None → Walked ns js q i (length ns)
+  on : {i j r : ℕ} → q < get_or ns i 0 → get_or js i None ≡ Some j → Walked ns js q j r → Walked ns js q i r

@@ -1,5 +1,5 @@
 -- When an environment on bytes stands for a text of letters with a cursor.
-use Rattle.std.specs.Prelude.{ℕ, ◌≤◌, ◌≡◌, List, take}
+use Rattle.std.specs.Prelude.{ℕ, ◌≤◌, ◌≡◌, List, Result, Ok, Err, take}
 use Rattle.utf8.specs.Utf8.{Scalars, encode}
 use Rattle.utf8.specs.Places.{size, At}
 use Rattle.snowball.specs.Chars.{Chars, slice_from}
@@ -25,6 +25,11 @@ Stands e s = Standing e.current e.limit e.cursor e.limit_backward s
 -- e stands for some text
 abbrev pub Holds : Env → Type 0
 Holds e = (s : Chars) × Stands e s
+
+-- the environment that comes back with either answer
+abbrev pub handed_back : Result Env Env → Env
+handed_back (Ok e) = e
+handed_back (Err e) = e
 
 -- bra and ket are the same in e and r
 pub record SameMarks (e r : Env) : Type 0 where

@@ -1,11 +1,11 @@
 // The Rust's snowball_env.rs: the environment, and the functions that the Arabic steps call.
 ghost use Rattle.std.specs.Prelude.{◌≡◌, List, [], true, ℕ, ◌+◌, ◌-◌, ◌<◌, ◌≤◌, length, take, get_or, leb};
-ghost use Rattle.std.proofs.Math.Seq.{paste, slice};
+ghost use Rattle.std.specs.Result.{IfErr, is_ok};
 ghost use Rattle.utf8.specs.Utf8.{Scalars, encode};
 ghost use Rattle.utf8.specs.Places.{starts, leads, NextStart, LastStart};
 ghost use Rattle.snowball.specs.Match.{stands_at};
 ghost use Rattle.snowball.specs.Chars.{Chars, started, with_cursor, eq_s};
-ghost use Rattle.snowball.specs.Stands.{work_size, Stands, Holds, SameMarks, Sliced};
+ghost use Rattle.snowball.specs.Stands.{work_size, Stands, Holds, SameMarks, Sliced, handed_back};
 ghost use Rattle.snowball.specs.Bytes.{Created, Replaced};
 
 // The bytes of the work array: a word of 255 bytes has at most so many when it is normalised.
@@ -13,7 +13,7 @@ pub const WORK_SIZE: usize = 340;
 
 // The Rust's SnowballEnv: a text, and places in it. The text is the first limit bytes of current: in the Rust limit is
 // always the length of current where Arabic is stemmed. The number of endings that were cut is not in the Rust: a step that
-// cuts adds to it, and the functions here promise nothing of it.
+// cuts adds to it; of the functions here, only those that leave the environment as it is promise it.
 #[derive(Drop)]
 pub struct Env {
     pub cursor: usize,
@@ -25,82 +25,45 @@ pub struct Env {
     pub endings: u32,
 }
 
-// An environment, and whether what was asked for was found in it.
-#[derive(Drop)]
-pub struct Matched {
-    pub found: bool,
-    pub env: Env,
-}
-
-// The Rust's push_str, into an array: text[from..to] is copied to out from the index at on.
-fn put(out: &mut [u8], at: usize, text: &[u8], from: usize, to: usize)
-    requires { (length out.old ≡ work_size) × (from ≤ to) × (to ≤ length text.now) × (at + (to - from) ≤ work_size) }
-    ensures { out.new ≡ paste out.old at (slice from to text.now) (to - from) }
-{
-    out[at..at + (to - from)].copy_from_slice(&text[from..to]);
-}
-
 // The Rust's is_char_boundary, asked of a byte: whether a letter starts with it.
-fn is_start(b: u8) -> bool
-    ensures { result ≡ starts b }
+fn is_start(byte: u8) -> bool
+    ensures { result ≡ starts byte }
 {
-    if b < 0x80 {
-        return true;
-    }
-    b >= 0xC0
+    !matches!(byte, 0x80..=0xBF)
 }
 
-// The Rust's chars().count(): how many letters the first limit bytes encode.
-pub fn count_chars(text: &[u8], limit: usize) -> usize
-    requires { limit ≤ length text.now }
-    ensures by_letters { (cs : List ℕ) → take limit text.now ≡ encode cs → result ≡ length cs }
-    ensures value { result ≡ leads (take limit text.now) }
+// The Rust's chars().count(): how many letters the text encodes.
+pub fn count_chars(text: &[u8]) -> usize
+    ensures by_letters { (cs : List ℕ) → text.now ≡ encode cs → result ≡ length cs }
+    ensures value { result ≡ leads text.now }
 {
-    let mut n: usize = 0;
-    let mut i = 0;
-    while i < limit {
-        if is_start(text[i]) {
-            n += 1;
+    let mut count = 0;
+    for &byte in text {
+        if is_start(byte) {
+            count += 1;
         }
-        i += 1;
     }
-    n
+    count
 }
 
-// Whether the first limit bytes encode at least so many letters: what a guard asks of chars().count(), with no byte read behind the last
+// Whether the text encodes at least so many letters: what a guard asks of chars().count(), with no byte read behind the last
 // letter that it needs.
-pub fn has_chars(text: &[u8], limit: usize, least: usize) -> bool
-    requires { limit ≤ length text.now }
-    ensures by_letters { (cs : List ℕ) → take limit text.now ≡ encode cs → result ≡ leb least (length cs) }
-    ensures value { result ≡ leb least (leads (take limit text.now)) }
+pub fn has_chars(text: &[u8], least: usize) -> bool
+    ensures by_letters { (cs : List ℕ) → text.now ≡ encode cs → result ≡ leb least (length cs) }
+    ensures value { result ≡ leb least (leads text.now) }
 {
-    let mut n: usize = 0;
-    let mut i = 0;
-    while n < least {
-        if i >= limit {
-            return false;
-        }
-        if is_start(text[i]) {
-            n += 1;
-        }
-        i += 1;
-    }
-    true
+    let mut starts = text.iter().filter(|&&byte| is_start(byte));
+    least == 0 || starts.nth(least - 1).is_some()
 }
 
-// The loop of the Rust's next_char: the next place behind the cursor where a letter starts, or limit.
-fn next_start(text: &[u8], cursor: usize, limit: usize) -> usize
-    requires { (limit ≤ length text.now) × (cursor < limit) }
-    ensures { NextStart text.now limit cursor result }
+// The loop of the Rust's next_char: the next place behind the cursor where a letter starts, or the text's end.
+fn next_start(text: &[u8], cursor: usize) -> usize
+    requires { cursor < length text.now }
+    ensures { NextStart text.now (length text.now) cursor result }
 {
-    let mut i = cursor + 1;
-    while i < limit {
-        if is_start(text[i]) {
-            return i;
-        }
-        i += 1;
-    }
-    i
+    (cursor + 1..text.len())
+        .find(|&place| is_start(text[place]))
+        .unwrap_or(text.len())
 }
 
 // The loop of the Rust's previous_char: the last place in front of the cursor where a letter starts.
@@ -108,30 +71,17 @@ fn last_start(text: &[u8], cursor: usize) -> usize
     requires { (cursor ≤ length text.now) × (0 < cursor) × (starts (get_or text.now 0 0) ≡ true) }
     ensures { LastStart text.now cursor result }
 {
-    let mut i = cursor - 1;
-    while i > 0 {
-        if is_start(text[i]) {
-            return i;
-        }
-        i -= 1;
-    }
-    i
+    (0..cursor)
+        .rev()
+        .find(|&place| is_start(text[place]))
+        .unwrap_or(0)
 }
 
-// The test of the Rust's eq_s: whether key stands at the cursor in the first limit bytes. At limit the answer is no, also
-// for an empty key.
-pub fn stands_at(text: &[u8], cursor: usize, limit: usize, key: &[u8]) -> bool
-    requires { limit ≤ length text.now }
-    ensures { result ≡ stands_at (take limit text.now) cursor key.now }
+// The test of the Rust's eq_s: whether key stands at the cursor. At the text's end the answer is no, also for an empty key.
+pub fn stands_at(text: &[u8], cursor: usize, key: &[u8]) -> bool
+    ensures { result ≡ stands_at text.now cursor key.now }
 {
-    if cursor >= limit {
-        return false;
-    }
-    if limit - cursor < key.len() {
-        return false;
-    }
-    let end = cursor + key.len();
-    &text[cursor..end] == key
+    cursor < text.len() && text[cursor..].starts_with(key)
 }
 
 impl Env {
@@ -142,7 +92,7 @@ impl Env {
     {
         let len = word.len();
         let mut current = [0u8; WORK_SIZE];
-        put(&mut current, 0, word, 0, len);
+        current[..len].copy_from_slice(word);
         Env {
             cursor: 0,
             limit: len,
@@ -154,6 +104,14 @@ impl Env {
         }
     }
 
+    // The text: the bytes in front of limit.
+    pub fn text(&self) -> &[u8]
+        requires { self.now.limit ≤ work_size }
+        ensures { result.now ≡ take self.now.limit self.now.current }
+    {
+        &self.current[..self.limit]
+    }
+
     // The Rust's replace_s: the bytes from bra to ket are replaced by s. A cursor at ket or behind it moves with the
     // text, one strictly inside goes to bra, any other stays.
     fn replace_s(mut self, bra: usize, ket: usize, s: &[u8]) -> Env
@@ -163,19 +121,15 @@ impl Env {
     {
         let limit = self.limit;
         let cut = ket - bra;
-        let len = s.len();
-        let mut current = self.current;
-        put(&mut current, bra, s, 0, len);
-        put(&mut current, bra + len, &self.current, ket, limit);
-        let mut cursor = self.cursor;
-        if cursor >= ket {
-            cursor = cursor - cut + len;
-        } else if cursor > bra {
-            cursor = bra;
-        }
-        self.cursor = cursor;
-        self.limit = limit - cut + len;
-        self.current = current;
+        let end = bra + s.len();
+        self.current.copy_within(ket..limit, end);
+        self.current[bra..end].copy_from_slice(s);
+        self.cursor = if self.cursor >= ket {
+            self.cursor - cut + s.len()
+        } else {
+            self.cursor.min(bra)
+        };
+        self.limit = limit - cut + s.len();
         self
     }
 
@@ -195,37 +149,28 @@ impl Env {
         requires { Holds self × (self.bra ≤ self.ket) × (self.ket ≤ self.limit) }
         ensures { SameMarks self result × Sliced self [] result }
     {
-        let end = self.bra;
         if self.ket == self.limit {
-            self.limit = end;
-            if self.cursor > end {
-                self.cursor = end;
-            }
+            self.limit = self.bra;
+            self.cursor = self.cursor.min(self.bra);
             return self;
         }
         self.slice_from(b"")
     }
 
-    // The Rust's eq_s: whether key stands at the cursor, which then moves behind it. The Rust's last loop is left out: behind
-    // a key of whole letters there is a boundary.
-    pub fn eq_s(mut self, key: &[u8]) -> Matched
+    // The Rust's eq_s: whether key stands at the cursor, which then moves behind it; if not, the environment as it was. The Rust's
+    // last loop is left out: behind a key of whole letters there is a boundary.
+    pub fn eq_s(mut self, key: &[u8]) -> Result<Env, Env>
         requires { Holds self }
-        ensures { SameMarks self result.env × ((s : Chars) → Stands self s → (cs : List ℕ) → Scalars cs → key.now ≡ encode cs
-            → (result.found ≡ stands_at s.text s.cursor cs) × Stands result.env (eq_s s cs)) }
+        ensures marks { SameMarks self (handed_back result) }
+        ensures stands { (s : Chars) → Stands self s → (cs : List ℕ) → Scalars cs → key.now ≡ encode cs
+            → (is_ok result ≡ stands_at s.text s.cursor cs) × Stands (handed_back result) (eq_s s cs) }
+        ensures unchanged { IfErr result (λ r. r ≡ self) }
     {
-        let cursor = self.cursor;
-        let limit = self.limit;
-        if stands_at(&self.current, cursor, limit, key) {
-            self.cursor = cursor + key.len();
-            return Matched {
-                found: true,
-                env: self,
-            };
+        if stands_at(self.text(), self.cursor, key) {
+            self.cursor += key.len();
+            return Ok(self);
         }
-        Matched {
-            found: false,
-            env: self,
-        }
+        Err(self)
     }
 
     // The Rust's next_char: the cursor moves over the letter behind it.
@@ -233,9 +178,7 @@ impl Env {
         requires { Holds self × (self.cursor < self.limit) }
         ensures { SameMarks self result × ((s : Chars) → Stands self s → Stands result (with_cursor s (s.cursor + 1))) }
     {
-        let cursor = self.cursor;
-        let limit = self.limit;
-        self.cursor = next_start(&self.current, cursor, limit);
+        self.cursor = next_start(self.text(), self.cursor);
         self
     }
 
@@ -244,8 +187,7 @@ impl Env {
         requires { Holds self × (0 < self.cursor) }
         ensures { SameMarks self result × ((s : Chars) → Stands self s → Stands result (with_cursor s (s.cursor - 1))) }
     {
-        let cursor = self.cursor;
-        self.cursor = last_start(&self.current, cursor);
+        self.cursor = last_start(self.text(), self.cursor);
         self
     }
 }

@@ -5,9 +5,10 @@
 
 mod patient;
 
-ghost use Rattle.std.specs.Prelude.{◌≡◌, ◌≤◌, IfOk, length};
-ghost use Rattle.lines.specs.Machine.{kept_bytes, line_room, reading, after};
+ghost use Rattle.std.specs.Prelude.{◌≡◌, OnOk};
+ghost use Rattle.lines.specs.Machine.{after};
 
+use lines::Reader;
 use patient::Patient;
 use std::io::{Read, Write};
 use std::{fmt, io};
@@ -32,70 +33,66 @@ impl fmt::Debug for Failure {
     }
 }
 
-// Takes all bytes of a chunk: what they make the machine write goes to the output, up to the first write that fails.
-fn pump<W: Write>(
-    input: &[u8],
-    line: &mut [u8],
-    state: lines::State,
-    out: &mut [u8],
-    output: &mut W,
-) -> Result<lines::State, Failure>
-    requires kept_bytes_in_bounds { (kept_bytes ≤ length line.old) × (state.len ≤ kept_bytes) }
-    requires line_room_in_bounds { line_room ≤ length out.old }
-    ensures len_le_kept_bytes { IfOk result (λ left. left.len ≤ kept_bytes) }
-    ensures line_after { IfOk result (λ left. reading left line.new ≡ after (reading state line.old) input.now) }
-{
-    let mut state = state;
-    let mut at = 0;
-    while at < input.len() {
-        let fed = lines::feed(&input[at..], line, state, out);
-        let count = fed.count;
-        state = fed.state;
-        output.write_all(&out[..count]).map_err(Failure::Output)?;
-        at += fed.used;
-    }
-    Ok(state)
+// The machine, the buffer that it writes into, and the output that takes what it wrote.
+#[derive(Drop)]
+struct Pump<W> {
+    reader: Reader,
+    out: [u8; BUFFER_BYTES],
+    output: W,
 }
 
-// Writes the last line, if there is one.
-fn end<W: Write>(
-    line: &[u8],
-    state: lines::State,
-    out: &mut [u8],
-    output: &mut W,
-) -> Result<(), Failure>
-    requires len_in_bounds { state.len ≤ length line.now }
-    requires line_room_in_bounds { line_room ≤ length out.old }
-{
-    let count = lines::finish(line, state, out);
-    output.write_all(&out[..count]).map_err(Failure::Output)
+impl<W: Write> Pump<W> {
+    // Takes all bytes of a chunk: what they make the machine write goes to the output, up to the first write that fails.
+    fn take(&mut self, chunk: &[u8]) -> Result<(), Failure>
+        ensures { OnOk result (self.new.reader ≡ after self.old.reader chunk.now) }
+    {
+        let mut rest = chunk;
+        while !rest.is_empty() {
+            let fed = self.reader.feed(rest, &mut self.out);
+            self.output
+                .write_all(&self.out[..fed.count])
+                .map_err(Failure::Output)?;
+            rest = &rest[fed.used..];
+        }
+        Ok(())
+    }
+
+    // Writes the last line, if there is one.
+    fn end(&mut self) -> Result<(), Failure> {
+        let count = self.reader.finish(&mut self.out);
+        self.output
+            .write_all(&self.out[..count])
+            .map_err(Failure::Output)
+    }
 }
 
 // The whole input, up to the first read or write that fails: then the rest of the line is not known, or a gap is in front of it, and
 // no last line is written. The reads are counted, up to a number that no run reaches.
-fn run<R: Read, W: Write>(input: &mut R, output: &mut W) -> Result<(), Failure> {
-    let mut buf = [0u8; BUFFER_BYTES];
-    let mut out = [0u8; BUFFER_BYTES];
-    let mut line = [0u8; lines::KEPT_BYTES];
-    let mut state = lines::State::start();
+fn run<R: Read + Drop, W: Write + Drop>(mut input: R, output: W) -> Result<(), Failure> {
+    let mut chunk = [0u8; BUFFER_BYTES];
+    let mut pump = Pump {
+        reader: Reader::start(),
+        out: [0; BUFFER_BYTES],
+        output,
+    };
     for _ in 0..u64::MAX {
-        let count = input.read(&mut buf).map_err(Failure::Input)?;
+        let count = input.read(&mut chunk).map_err(Failure::Input)?;
         if count == 0 {
             break;
         }
-        state = pump(&buf[..count], &mut line, state, &mut out, output)?;
+        pump.take(&chunk[..count])?;
     }
-    end(&line, state, &mut out, output)
+    pump.end()
 }
 
 fn main(rt: HostRuntime) -> Result<(), Failure> {
-    let mut input = Patient {
+    let input = Patient {
         clock: &rt,
         stream: rt.stdin(),
     };
-    let mut output = Patient {
+    let output = Patient {
         clock: &rt,
         stream: rt.stdout(),
     };
-    run(&mut input, &mut output)
+    run(input, output)
 }

@@ -1,4 +1,7 @@
 // A stream whose reads and writes are made again after a signal, and a moment later where there is nothing to read or no room yet.
+ghost use Rattle.std.specs.Prelude.{IfOk, Ok};
+ghost use Rattle.stem_lines.specs.Tries.{SameSizes};
+
 use std::io::{ErrorKind, Read, Write};
 use std::time::{Clock, Duration};
 use std::{io, thread};
@@ -24,29 +27,33 @@ fn again(clock: &impl Clock, error: &io::Error) -> bool {
     }
 }
 
+// Makes a call again until it is done, and gives what the last try gave. The tries before it left each size that no call changes as it was.
 // A proved loop has to end, and nothing says that there will be something to read or room: the tries are counted, up to a number that
 // no run reaches.
+fn patiently<T, F: FnMut() -> io::Result<T>>(clock: &impl Clock, mut call: F) -> io::Result<T>
+    requires { F.IsAlwaysCallable call }
+    ensures { IfOk result (λ done. (last : F) × SameSizes F.step call last × F.post last (Ok done)) }
+{
+    for _ in 0..u64::MAX {
+        match call() {
+            Err(error) if again(clock, &error) => {}
+            done => return done,
+        }
+    }
+    Err(ErrorKind::TimedOut.into())
+}
+
 impl<C: Clock, S: Read> Read for Patient<'_, C, S> {
     fn read(&mut self, buf: &mut [u8]) -> io::Result<usize> {
-        for _ in 0..u64::MAX {
-            match self.stream.read(buf) {
-                Err(error) if again(self.clock, &error) => {}
-                done => return done,
-            }
-        }
-        Err(ErrorKind::TimedOut.into())
+        let stream = &mut self.stream;
+        patiently(self.clock, || stream.read(buf))
     }
 }
 
 impl<C: Clock, S: Write> Write for Patient<'_, C, S> {
     fn write(&mut self, buf: &[u8]) -> io::Result<usize> {
-        for _ in 0..u64::MAX {
-            match self.stream.write(buf) {
-                Err(error) if again(self.clock, &error) => {}
-                done => return done,
-            }
-        }
-        Err(ErrorKind::TimedOut.into())
+        let stream = &mut self.stream;
+        patiently(self.clock, || stream.write(buf))
     }
 
     fn flush(&mut self) -> io::Result<()> {

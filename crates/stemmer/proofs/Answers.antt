@@ -9,6 +9,8 @@ use lib.Dec.{ltb}
 use lib.ListN.{length, take, drop}
 use lib.Seq.{take_at}
 use borrow.Author.Tests.{lt-ltb, le-ltb, ltb-true, ltb-false}
+use Rattle.std.specs.Prelude.{Result, Ok, Err, IsErrAnd}
+use Rattle.std.proofs.lemmas.Result.{err_from_is_err_and}
 use Rattle.utf8.specs.Utf8.{Scalars, encode, decode, well_formed}
 use Rattle.utf8.proofs.Main.{main_decodes, main_text}
 use Rattle.definition.specs.Words.{Word, pick}
@@ -21,24 +23,20 @@ use Rattle.definition.proofs.Match.{by}
 use Rattle.snowball.specs.Chars.{started}
 use Rattle.snowball.specs.Stands.{Stands}
 use Rattle.snowball.specs.declared.env.Env.{Env}
-use Rattle.stemmer.specs.declared.Answer.{Answer}
-use Rattle.stemmer.specs.declared.Answer.TheVariants.{Done, TooLong, NotWellFormed, NoRoom}
-use Rattle.stemmer.specs.declared.StemAnswer.{StemAnswer}
-use Rattle.stemmer.specs.declared.Checked.{Checked}
-use Rattle.stemmer.specs.declared.Checked.TheVariants.{Overlong, Malformed, Accepted}
-use Rattle.stemmer.specs.Entries.{code_of, count_of, most_bytes, enough_room, letters, bytes_of, checked, after_checks, fitting, answer, out_after, part_after, with_endings, kind_after, kind_answer, Demand3After, FewEndingsOf, stem_entry}
+use Rattle.stemmer.specs.declared.outcome.Stem.{Stem}
+use Rattle.stemmer.specs.declared.outcome.BadWord.{BadWord}
+use Rattle.stemmer.specs.declared.outcome.BadWord.TheVariants.{TooLong, NotWellFormed}
+use Rattle.stemmer.specs.declared.outcome.Refusal.{Refusal}
+use Rattle.stemmer.specs.declared.outcome.Refusal.TheVariants.{Bad, NoRoom}
+use Rattle.stemmer.specs.Entries.{Answer, refusal_code, code_of, count_of, endings_of, most_bytes, enough_room, letters, bytes_of, checked, after_checks, fitting, answer, out_after, part_after, with_endings, without_endings, kind_after, kind_answer, Demand3After, FewEndingsOf, stem_entry}
 
--- ---- checking: each outcome
+-- ---- checking: a word that is too long, and one that is accepted
 module _ (word : List ℕ) where
-  pub overlong : most_bytes < length word → Overlong ≡ checked word
+  pub too_long : most_bytes < length word → checked word ≡ Err TooLong
   unfolding checked
-  overlong h = rw (lt-ltb most_bytes (length word) h) refl
+  too_long h = rw (lt-ltb most_bytes (length word) h) refl
 
-  pub malformed : length word ≤ most_bytes → well_formed word ≡ false → Malformed ≡ checked word
-  unfolding checked
-  malformed h e = rw (le-ltb most_bytes (length word) h, e) refl
-
-  pub accepted : length word ≤ most_bytes → well_formed word ≡ true → Accepted ≡ checked word
+  pub accepted : length word ≤ most_bytes → well_formed word ≡ true → checked word ≡ Ok tt
   unfolding checked
   accepted h e = rw (le-ltb most_bytes (length word) h, e) refl
 
@@ -60,12 +58,12 @@ module _ (word : List ℕ) (w : well_formed word ≡ true) where
   pub formed_spelling : word ≡ encode (letters word)
   formed_spelling = (main_text word w).2 ∙ ap encode letters_of
 
-both-passed : (long formed : Bool) → pick long Overlong (pick (not formed) Malformed Accepted) ≡ Accepted → (long ≡ false) × (formed ≡ true)
-both-passed true formed e = let z : ◌≡◌ {A = ℕ} 0 1 = cc in absurd (omega arith)
+both-passed : (long formed : Bool) → ◌≡◌ {A = Result (Unit {0}) BadWord} (pick long (Err TooLong) (pick (not formed) (Err NotWellFormed) (Ok tt))) (Ok tt) → (long ≡ false) × (formed ≡ true)
+both-passed true formed e = cc
 both-passed false true e = (refl, refl)
-both-passed false false e = let z : ◌≡◌ {A = ℕ} 0 1 = cc in absurd (omega arith)
+both-passed false false e = cc
 
-module _ (word : List ℕ) (e : checked word ≡ Accepted) where
+module _ (word : List ℕ) (e : checked word ≡ Ok tt) where
   passed : (ltb most_bytes (length word) ≡ false) × (well_formed word ≡ true)
   unfolding checked
   passed = both-passed (ltb most_bytes (length word)) (well_formed word) e
@@ -83,59 +81,79 @@ module _ (word : List ℕ) (e : checked word ≡ Accepted) where
   spelling = formed_spelling word formed
 
 -- ---- code 3 says that the output is shorter than the result
-no_room : (r : Answer) (n room : ℕ) → r ≡ fitting n room → n ≤ enough_room → code_of r ≡ 3 → room < enough_room
+no_room : (n room : ℕ) → n ≤ enough_room → code_of (fitting n room) ≡ 3 → room < enough_room
 unfolding fitting
-no_room r n room e h z = by (ltb room n)
+no_room n room h z = by (ltb room n)
     (λ t. omega (arith, ltb-true room n t))
-    (λ t. let q : code_of r ≡ 0 = ap code_of e ∙ ap (λ (b : Bool). code_of (pick b NoRoom (Done n))) t in absurd (omega arith))
+    (λ t. let q : ◌≡◌ {A = ℕ} 3 0 = sym z ∙ ap (λ (b : Bool). code_of {A = ℕ} (pick b (Err NoRoom) (Ok n))) t in absurd (omega arith))
 
 -- ---- the answer, by the outcome of the checks
-pub after : (f : Word → Word) (word : List ℕ) (room : ℕ) (c : Checked) → checked word ≡ c → after_checks c (fitting (length (bytes_of f word)) room) ≡ answer f word room
+pub after : (f : Word → Word) (word : List ℕ) (room : ℕ) (c : Result (Unit {0}) BadWord) → checked word ≡ c
+    → answer f word room ≡ after_checks c (fitting (length (bytes_of f word)) room)
 unfolding answer
-after f word room c e = sym (ap (λ (x : Checked). after_checks x (fitting (length (bytes_of f word)) room)) e)
+after f word room c e = ap (λ (x : Result (Unit {0}) BadWord). after_checks x (fitting (length (bytes_of f word)) room)) e
 
-pub over_long : (f : Word → Word) (word : List ℕ) (room : ℕ) → most_bytes < length word → answer f word room ≡ TooLong
-over_long f word room h = sym (after f word room Overlong (sym (overlong word h)))
+pub over_long : (f : Word → Word) (word : List ℕ) (room : ℕ) → most_bytes < length word → answer f word room ≡ Err (Bad TooLong)
+over_long f word room h = after f word room (Err TooLong) (too_long word h)
+
+-- a code is a refusal's or 0
+bad_word : (e : BadWord) → refusal_code (Bad e) ≡ 3 → ⊥
+bad_word TooLong z = omega arith
+bad_word NotWellFormed z = omega arith
+
+pub refused_code : (e : Refusal) → refusal_code e ≡ 0 → ⊥
+refused_code (Bad TooLong) z = omega arith
+refused_code (Bad NotWellFormed) z = omega arith
+refused_code NoRoom z = omega arith
 
 -- ---- the law of the entries: what is promised of the one that f belongs to, for each outcome of the checks
 module _ (f : Word → Word) (word old : List ℕ) where
-  abbrev Promised : Answer → List ℕ → Type 0
-  Promised r new =
-      (r ≡ answer f word (length old)) × ((new ≡ out_after (answer f word (length old)) (bytes_of f word) old) × (code_of r ≡ 3 → length old < enough_room))
+  abbrev pub Promised : Answer → List ℕ → Type 0
+  Promised r new = record {
+    value : r ≡ answer f word (length old);
+    out_after : new ≡ out_after (answer f word (length old)) (bytes_of f word) old;
+    out_len_bound : code_of r ≡ 3 → length old < enough_room;
+  }
 
   out_by : (a : Answer) → a ≡ answer f word (length old) → out_after a (bytes_of f word) old ≡ out_after (answer f word (length old)) (bytes_of f word) old
   out_by a e = ap (λ (x : Answer). out_after x (bytes_of f word) old) e
 
-  pub refused_overlong : checked word ≡ Overlong → Promised TooLong old
+  pub refused : (e : BadWord) → checked word ≡ Err e → (r : Answer) → IsErrAnd r (λ (x : Refusal). x ≡ Bad e) → Promised r old
   unfolding out_after
-  refused_overlong e = (after f word (length old) Overlong e, (out_by TooLong (after f word (length old) Overlong e), λ z. absurd (omega arith)))
-
-  pub refused_malformed : checked word ≡ Malformed → Promised NotWellFormed old
-  unfolding out_after
-  refused_malformed e = (after f word (length old) Malformed e, (out_by NotWellFormed (after f word (length old) Malformed e), λ z. absurd (omega arith)))
+  refused e c r h =
+      let p = err_from_is_err_and r h in
+      let is : r ≡ Err (Bad e) = p.1 ∙ ap Err p.2 in
+      let q : Err (Bad e) ≡ answer f word (length old) = sym (after f word (length old) (Err e) c) in
+      record {
+        value = is ∙ q;
+        out_after = out_by (Err (Bad e)) q;
+        out_len_bound = λ z. absurd (bad_word e (sym (ap (code_of {A = ℕ}) is) ∙ z));
+      }
 
   -- the text of an environment that stands for what f makes of the word's letters, delivered
-  pub delivered : checked word ≡ Accepted → (v : Env) → Stands v (started (f (letters word))) → (r : Answer) (new : List ℕ)
-      → r ≡ fitting v.limit (length old) → new ≡ out_after r (take v.limit v.current) old → Promised r new
+  pub delivered : checked word ≡ Ok tt → (v : Env) → Stands v (started (f (letters word))) → (text : List ℕ) → text ≡ take v.limit v.current → (r : Answer) (new : List ℕ)
+      → r ≡ fitting (length text) (length old) → new ≡ out_after r text old → Promised r new
   unfolding bytes_of
-  delivered e v st r new a o =
-      let q : r ≡ answer f word (length old) = a ∙ ap (λ (n : ℕ). fitting n (length old)) st.sized ∙ after f word (length old) Accepted e in
-      (q, (o ∙ ap (λ (bs : List ℕ). out_after r bs old) st.bytes ∙ out_by r q, no_room r v.limit (length old) a st.within))
+  delivered c v st text t r new a o =
+      let b : text ≡ bytes_of f word = t ∙ st.bytes in
+      let fits : r ≡ fitting (length (bytes_of f word)) (length old) = a ∙ ap (λ (bs : List ℕ). fitting (length bs) (length old)) b in
+      let q : r ≡ answer f word (length old) = fits ∙ sym (after f word (length old) (Ok tt) c) in
+      record {
+        value = q;
+        out_after = o ∙ ap (λ (bs : List ℕ). out_after r bs old) b ∙ out_by r q;
+        out_len_bound = λ z. no_room (length (bytes_of f word)) (length old) (omega (arith, st.sized, st.within)) (sym (ap (code_of {A = ℕ}) fits) ∙ z);
+      }
 
--- ---- what a Done says
-fits_or_not : (b : Bool) (m n : ℕ) → pick b NoRoom (Done m) ≡ Done n → (b ≡ false) × (m ≡ n)
-fits_or_not true m n e = let z : ◌≡◌ {A = ℕ} 3 0 = ap code_of e in absurd (omega arith)
-fits_or_not false m n e = (refl, ap count_of e)
+-- ---- what an Ok says
+ok_of : (c : Result (Unit {0}) BadWord) (d : Bool) (m n : ℕ) → after_checks c (pick d (Err NoRoom) (Ok m)) ≡ Ok n → (d ≡ false) × (m ≡ n)
+ok_of (Err e) d m n q = cc
+ok_of (Ok u) true m n q = cc
+ok_of (Ok u) false m n q = (refl, cc)
 
-done_of : (c : Checked) (d : Bool) (m n : ℕ) → after_checks c (pick d NoRoom (Done m)) ≡ Done n → (d ≡ false) × (m ≡ n)
-done_of Overlong d m n e = let z : ◌≡◌ {A = ℕ} 1 0 = ap code_of e in absurd (omega arith)
-done_of Malformed d m n e = let z : ◌≡◌ {A = ℕ} 2 0 = ap code_of e in absurd (omega arith)
-done_of Accepted d m n e = fits_or_not d m n e
-
-module _ (f : Word → Word) (word : List ℕ) (room n : ℕ) (e : answer f word room ≡ Done n) where
+module _ (f : Word → Word) (word : List ℕ) (room n : ℕ) (e : answer f word room ≡ Ok n) where
   both-said : (ltb room (length (bytes_of f word)) ≡ false) × (length (bytes_of f word) ≡ n)
   unfolding answer fitting
-  both-said = done_of (checked word) (ltb room (length (bytes_of f word))) (length (bytes_of f word)) n e
+  both-said = ok_of (checked word) (ltb room (length (bytes_of f word))) (length (bytes_of f word)) n e
 
   count_is : length (bytes_of f word) ≡ n
   count_is = both-said.1
@@ -143,10 +161,10 @@ module _ (f : Word → Word) (word : List ℕ) (room n : ℕ) (e : answer f word
   count_fits : n ≤ room
   count_fits = omega (arith, ltb-false room (length (bytes_of f word)) both-said.0, count_is)
 
-pub done_count : (word : List ℕ) (room n : ℕ) → answer stem word room ≡ Done n → length (bytes_of stem word) ≡ n
+pub done_count : (word : List ℕ) (room n : ℕ) → answer stem word room ≡ Ok n → length (bytes_of stem word) ≡ n
 done_count = count_is stem
 
-pub done-fits : (word : List ℕ) (room n : ℕ) → answer stem word room ≡ Done n → n ≤ room
+pub done-fits : (word : List ℕ) (room n : ℕ) → answer stem word room ≡ Ok n → n ≤ room
 done-fits = count_fits stem
 
 -- ---- the output
@@ -155,86 +173,80 @@ done-fits = count_fits stem
 pub front : (f : Word → Word) (word old : List ℕ) (a : Answer) → a ≡ answer f word (length old) → code_of a ≡ 0
     → take (count_of a) (out_after a (bytes_of f word) old) ≡ bytes_of f word
 unfolding out_after
-front f word old (Done n) e z = take_at (bytes_of f word) (drop n old) n (count_is f word (length old) n (sym e))
-front f word old TooLong e z = absurd (omega arith)
-front f word old NotWellFormed e z = absurd (omega arith)
-front f word old NoRoom e z = absurd (omega arith)
+front f word old (Ok n) e z = take_at (bytes_of f word) (drop n old) n (count_is f word (length old) n (sym e))
+front f word old (Err x) e z = absurd (refused_code x z)
 
 -- demand 3, from the other promises of the stem entry
-owed : (word old new : List ℕ) (a : Answer) → a ≡ answer stem word (length old) → new ≡ out_after (answer stem word (length old)) (bytes_of stem word) old
-    → Demand3After word a new
+owed : (word old new : List ℕ) (a : Answer) → Promised stem word old a new → Demand3After word a new
 unfolding bytes_of
-owed word old new a e o = λ w d z. (
+owed word old new a p = λ w d z. (
   stem w,
   (
-    ap (take (count_of a)) (o ∙ sym (out_by stem word old a e)) ∙ front stem word old a e z ∙ ap (λ (x : Word). encode (stem x)) (letters_are word w d),
+    ap (take (count_of a)) (p.out_after ∙ sym (out_by stem word old a p.value)) ∙ front stem word old a p.value z
+        ∙ ap (λ (x : Word). encode (stem x)) (letters_are word w d),
     main_demand3 w,
   ),
 )
 
 -- ---- the number of endings
-with_answer : (a : Answer) (m : ℕ) → (with_endings a m).answer ≡ a
-with_answer (Done n) m = refl
-with_answer TooLong m = refl
-with_answer NotWellFormed m = refl
-with_answer NoRoom m = refl
+abbrev pub number : List ℕ → ℕ
+number word = length (chain (letters word))
 
-pub entry_answer : (word : List ℕ) (room : ℕ) → (stem_entry word room).answer ≡ answer stem word room
-entry_answer word room = with_answer (answer stem word room) (length (chain (letters word)))
+with_answer : (a : Answer) (m : ℕ) → without_endings (with_endings a m) ≡ a
+with_answer (Ok n) m = refl
+with_answer (Err e) m = refl
+
+pub entry_answer : (word : List ℕ) (room : ℕ) → without_endings (stem_entry word room) ≡ answer stem word room
+entry_answer word room = with_answer (answer stem word room) (number word)
 
 -- it matters with code 0 alone
 pub with_same : (a : Answer) (m n : ℕ) → (code_of a ≡ 0 → m ≡ n) → with_endings a m ≡ with_endings a n
-with_same (Done k) m n e = ap (with_endings (Done k)) (e refl)
-with_same TooLong m n e = refl
-with_same NotWellFormed m n e = refl
-with_same NoRoom m n e = refl
+with_same (Ok k) m n e = ap (with_endings (Ok k)) (e refl)
+with_same (Err e) m n q = refl
 
 -- and a refusal's 0 is within every bound
-with_few : (a : Answer) (m : ℕ) (w : Word) → FewEndings w m → FewEndings w (with_endings a m).endings
-with_few (Done n) m w h = h
-with_few TooLong m w h = none_few w
-with_few NotWellFormed m w h = none_few w
-with_few NoRoom m w h = none_few w
+with_few : (a : Answer) (m : ℕ) (w : Word) → FewEndings w m → FewEndings w (endings_of (with_endings a m))
+with_few (Ok n) m w h = h
+with_few (Err e) m w h = none_few w
 
--- what the stem entry promises, from what is promised of code, count and output, and from the number counted
+with_code : (a : Answer) (m : ℕ) → code_of (with_endings a m) ≡ code_of a
+with_code (Ok n) m = refl
+with_code (Err e) m = refl
+
+-- what the stem entry promises, from what is promised of code, count and output
 module _ (word old : List ℕ) where
-  abbrev pub StemPromised : StemAnswer → List ℕ → Type 0
-  StemPromised r new =
-      (r ≡ stem_entry word (length old)) × ((new ≡ out_after (answer stem word (length old)) (bytes_of stem word) old)
-      × (Demand3After word r.answer new × (FewEndingsOf word r.endings × (code_of r.answer ≡ 3 → length old < enough_room))))
+  abbrev pub StemPromised : Result Stem Refusal → List ℕ → Type 0
+  StemPromised r new = record {
+    value : r ≡ stem_entry word (length old);
+    out_after : new ≡ out_after (answer stem word (length old)) (bytes_of stem word) old;
+    demand3after : Demand3After word (without_endings r) new;
+    few_endings_of : FewEndingsOf word (endings_of r);
+    out_len_bound : code_of r ≡ 3 → length old < enough_room;
+  }
 
-  pub with_endings_lem : {a : Answer} {new : List ℕ} → Promised stem word old a new → (m : ℕ) → (code_of a ≡ 0 → m ≡ length (chain (letters word))) → StemPromised (with_endings a m) new
-  with_endings_lem {a} {new} p m e =
-      let n : ℕ = length (chain (letters word)) in
-      let q : with_endings a m ≡ with_endings a n = with_same a m n e in (
-        q ∙ ap (λ (x : Answer). with_endings x n) p.0,
-        (
-          p.1.0,
-          (
-            subst (λ (x : Answer). Demand3After word x new) (sym (with_answer a m)) (owed word old new a p.0 p.1.0),
-            (
-              λ w d. subst (FewEndings w) (ap (λ (x : Word). (with_endings a (length (chain x))).endings) (sym (letters_are word w d)) ∙ sym (ap (λ (s : StemAnswer). s.endings) q))
-                  (with_few a (length (chain w)) w (main_number w)),
-              λ z. p.1.1 (sym (ap code_of (with_answer a m)) ∙ z),
-            ),
-          ),
-        ),
-      )
+  pub numbered : (a : Answer) (new : List ℕ) → Promised stem word old a new → (r : Result Stem Refusal) → r ≡ with_endings a (number word) → StemPromised r new
+  numbered a new p r is =
+      let same : r ≡ stem_entry word (length old) = is ∙ ap (λ (x : Answer). with_endings x (number word)) p.value in
+      record {
+        value = same;
+        out_after = p.out_after;
+        demand3after = subst (λ (x : Answer). Demand3After word x new) (sym (ap without_endings is ∙ with_answer a (number word))) (owed word old new a p);
+        few_endings_of = λ w d. subst (λ (x : Result Stem Refusal). FewEndings w (endings_of x))
+            (ap (λ (x : Word). with_endings (answer stem word (length old)) (length (chain x))) (sym (letters_are word w d)) ∙ sym same)
+            (with_few (answer stem word (length old)) (length (chain w)) w (main_number w));
+        out_len_bound = λ z. p.out_len_bound (sym (ap (code_of {A = Stem}) is ∙ with_code a (number word)) ∙ z);
+      }
 
 -- the part that is handed back: as many bytes of the output as the answer counts
 module _ (f : Word → Word) (word old : List ℕ) where
   counted : (a : Answer) → a ≡ answer f word (length old) → count_of a ≤ length old
-  counted (Done n) e = count_fits f word (length old) n (sym e)
-  counted TooLong e = omega arith
-  counted NotWellFormed e = omega arith
-  counted NoRoom e = omega arith
+  counted (Ok n) e = count_fits f word (length old) n (sym e)
+  counted (Err x) e = omega arith
 
   parted : (a : Answer) → a ≡ answer f word (length old) → take (count_of a) (out_after a (bytes_of f word) old) ≡ part_after a (bytes_of f word)
   unfolding out_after part_after
-  parted (Done n) e = front f word old (Done n) e refl
-  parted TooLong e = refl
-  parted NotWellFormed e = refl
-  parted NoRoom e = refl
+  parted (Ok n) e = front f word old (Ok n) e refl
+  parted (Err x) e = refl
 
   pub count_within : count_of (answer f word (length old)) ≤ length old
   count_within = counted (answer f word (length old)) refl
@@ -243,6 +255,6 @@ module _ (f : Word → Word) (word old : List ℕ) where
   part_is = parted (answer f word (length old)) refl
 
 -- ---- the kind
-pub kind-after : (word : List ℕ) (c : Checked) → checked word ≡ c → kind_after c (kind (letters word)) ≡ kind_answer word
+pub kind-after : (word : List ℕ) (c : Result (Unit {0}) BadWord) → checked word ≡ c → kind_after c (kind (letters word)) ≡ kind_answer word
 unfolding kind_answer
-kind-after word c e = sym (ap (λ (x : Checked). kind_after x (kind (letters word))) e)
+kind-after word c e = sym (ap (λ (x : Result (Unit {0}) BadWord). kind_after x (kind (letters word))) e)

@@ -8,6 +8,7 @@ use lib.Dec.{ltb}
 use lib.ListN.{length, drop, get_or, length-append, length-drop}
 use lib.Seq.{take_at, drop_at, drop-drop}
 use borrow.Author.Tests.{lt-ltb, le-ltb, ltb-true, ltb-false}
+use Rattle.std.specs.Prelude.{Ok, Err}
 use Rattle.utf8.specs.Utf8.{Scalars, encode1, encode, first, filled, step, onto, run, well_formed}
 use Rattle.utf8.proofs.Main.{main_well_formed}
 use Rattle.utf8.proofs.Text.{encode-append, scalars-append}
@@ -22,8 +23,8 @@ use Rattle.definition.proofs.Match.{both_0, both_1, by}
 use Rattle.arabic.proofs.Main.{main_grows, main_size}
 use Rattle.arabic.proofs.Gives.{normalise-scalars}
 use Rattle.arabic.proofs.Changes.{finish-scalars}
-use Rattle.stemmer.specs.declared.Answer.TheVariants.{Done, TooLong, NoRoom}
-use Rattle.stemmer.specs.declared.Checked.TheVariants.{Accepted}
+use Rattle.stemmer.specs.declared.outcome.BadWord.TheVariants.{TooLong}
+use Rattle.stemmer.specs.declared.outcome.Refusal.TheVariants.{Bad, NoRoom}
 use Rattle.stemmer.specs.Entries.{most_bytes, enough_room, code_of, letters, bytes_of, checked, fitting, answer, out_after}
 use Rattle.stemmer.specs.Blocks.{out_of, written, behind, in_turn, Joins, Again, ligatures, alef_block, beh_block}
 use Rattle.stemmer.proofs.Answers.{accepted, letters-encoded, formed-scalars, formed_spelling, short, formed, spelling, after}
@@ -51,11 +52,11 @@ module _ (u v : List ℕ) (a : well_formed u ≡ true) (b : well_formed v ≡ tr
 
 -- ---- two answers in turn
 
-fits : (n room : ℕ) → n ≤ room → fitting n room ≡ Done n
+fits : (n room : ℕ) → n ≤ room → fitting n room ≡ Ok n
 unfolding fitting
 fits n room h = rw (le-ltb room n h) refl
 
-fails : (n room : ℕ) → room < n → fitting n room ≡ NoRoom
+fails : (n room : ℕ) → room < n → fitting n room ≡ Err NoRoom
 unfolding fitting
 fails n room h = rw (lt-ltb room n h) refl
 
@@ -76,14 +77,14 @@ room_for n room z =
     by_room n room (λ h. h) (λ h. let e : code_of (fitting n room) ≡ 3 = ap code_of (fails n room h) in absurd (omega arith))
 
 -- ---- an accepted word: its answer, and its output where the result fits
-module _ (f : Word → Word) (word : List ℕ) (e : checked word ≡ Accepted) where
+module _ (f : Word → Word) (word : List ℕ) (e : checked word ≡ Ok tt) where
   abbrev size : ℕ
   size = length (bytes_of f word)
 
   fitted : (room : ℕ) → answer f word room ≡ fitting size room
-  fitted room = sym (after f word room Accepted e)
+  fitted room = after f word room (Ok tt) e
 
-  pub done : (room : ℕ) → size ≤ room → answer f word room ≡ Done size
+  pub done : (room : ℕ) → size ≤ room → answer f word room ≡ Ok size
   done room h = fitted room ∙ fits size room h
 
   module _ (old : List ℕ) (h : size ≤ length old) where
@@ -107,14 +108,14 @@ module _ (u v : List ℕ) (a : well_formed u ≡ true) (b : well_formed v ≡ tr
   abbrev n : ℕ
   n = length (bytes_of normalise v)
 
-  first-accepted : checked u ≡ Accepted
-  first-accepted = sym (accepted u (omega arith) a)
+  first-accepted : checked u ≡ Ok tt
+  first-accepted = accepted u (omega arith) a
 
-  second-accepted : checked v ≡ Accepted
-  second-accepted = sym (accepted v (omega arith) b)
+  second-accepted : checked v ≡ Ok tt
+  second-accepted = accepted v (omega arith) b
 
-  joined-accepted : checked (u ++ v) ≡ Accepted
-  joined-accepted = sym (accepted (u ++ v) (omega (arith, length-append u v)) (joined-formed u v a b))
+  joined-accepted : checked (u ++ v) ≡ Ok tt
+  joined-accepted = accepted (u ++ v) (omega (arith, length-append u v)) (joined-formed u v a b)
 
   joined-size : length (bytes_of normalise (u ++ v)) ≡ m + n
   joined-size = ap length (joined_bytes u v a b) ∙ length-append (bytes_of normalise u) (bytes_of normalise v)
@@ -171,7 +172,7 @@ module _ (f : Word → Word) (keeps : (w : Word) → Scalars w → Scalars (f w)
       let s : Scalars (f (letters text)) = keeps (letters text) (formed-scalars text e) in
       (main_well_formed (f (letters text)) s, ap (λ (w : Word). encode (f w)) (letters-encoded (f (letters text)) s) ∙ ap encode (twice (letters text)))
 
-  again_law : (word : List ℕ) → checked word ≡ Accepted → length (bytes_of f word) ≤ most_bytes → Again f word
+  again_law : (word : List ℕ) → checked word ≡ Ok tt → length (bytes_of f word) ≤ most_bytes → Again f word
   again_law word e h = record {
     accepted = taken;
     bytes = same_bytes;
@@ -179,8 +180,8 @@ module _ (f : Word → Word) (keeps : (w : Word) → Scalars w → Scalars (f w)
     outputs = λ old. (λ i. out_after (same-answers (length old) i) (same_bytes i) old);
   }
     where
-      taken : checked (bytes_of f word) ≡ Accepted
-      taken = sym (accepted (bytes_of f word) h (text-again word (formed word e)).0)
+      taken : checked (bytes_of f word) ≡ Ok tt
+      taken = accepted (bytes_of f word) h (text-again word (formed word e)).0
 
       same_bytes : bytes_of f (bytes_of f word) ≡ bytes_of f word
       same_bytes = (text-again word (formed word e)).1
@@ -194,14 +195,14 @@ pub blocks_again : (text : List ℕ) (bs : List (List ℕ)) → well_formed text
     → flatten (map (bytes_of normalise) bs) ≡ bytes_of normalise text
 blocks_again text bs e f q = sym (blocks bs f).1 ∙ ap (bytes_of normalise) q ∙ (text-again normalise normalise-scalars main_normalise_twice text e).1
 
-pub normalise-again : (word : List ℕ) → checked word ≡ Accepted → length (bytes_of normalise word) ≤ most_bytes → Again normalise word
+pub normalise-again : (word : List ℕ) → checked word ≡ Ok tt → length (bytes_of normalise word) ≤ most_bytes → Again normalise word
 normalise-again = again_law normalise normalise-scalars main_normalise_twice
 
-pub finish_keeps : (word : List ℕ) → checked word ≡ Accepted → length (bytes_of finish word) ≡ length word
+pub finish_keeps : (word : List ℕ) → checked word ≡ Ok tt → length (bytes_of finish word) ≡ length word
 unfolding bytes_of
 finish_keeps word e = main_size (letters word) ∙ ap length (sym (spelling word e))
 
-pub finish-again : (word : List ℕ) → checked word ≡ Accepted → Again finish word
+pub finish-again : (word : List ℕ) → checked word ≡ Ok tt → Again finish word
 finish-again word e = again_law finish finish-scalars main_finish_twice word e (omega (arith, finish_keeps word e, short word e))
 
 -- ---- the bounds are needed: nothing longer is accepted
@@ -213,17 +214,17 @@ pub again_bound : (f : Word → Word) (word : List ℕ) → Again f word → len
 again_bound f word a = short (bytes_of f word) a.accepted
 
 -- how long a word must be for a normalised form of over 255 bytes
-pub short_normalised : (word : List ℕ) → checked word ≡ Accepted → length word < 192 → length (bytes_of normalise word) ≤ most_bytes
+pub short_normalised : (word : List ℕ) → checked word ≡ Ok tt → length word < 192 → length (bytes_of normalise word) ≤ most_bytes
 unfolding bytes_of
 short_normalised word e h = omega (arith, main_grows (letters word), ap length (spelling word e))
 
 -- ---- the examples, by computing
 
-pub grown : (length ligatures ≡ 192) × (answer normalise ligatures enough_room ≡ Done 256) × (answer normalise (bytes_of normalise ligatures) enough_room ≡ TooLong)
+pub grown : (length ligatures ≡ 192) × (answer normalise ligatures enough_room ≡ Ok 256) × (answer normalise (bytes_of normalise ligatures) enough_room ≡ Err (Bad TooLong))
 unfolding answer checked fitting bytes_of letters encode encode1 run step first filled onto normalise normal given gives listed_for longest longer begins_with same A_0
 grown = (refl, refl, refl)
 
-pub finished_apart : (answer finish (alef_block ++ beh_block) enough_room ≡ Done 4) × (bytes_of finish (alef_block ++ beh_block) ≡ encode (alef ∷ beh ∷ []))
+pub finished_apart : (answer finish (alef_block ++ beh_block) enough_room ≡ Ok 4) × (bytes_of finish (alef_block ++ beh_block) ≡ encode (alef ∷ beh ∷ []))
     × (bytes_of finish alef_block ++ bytes_of finish beh_block ≡ encode (hamza ∷ beh ∷ []))
 unfolding answer checked fitting bytes_of letters encode encode1 run step first filled onto finish last other
 finished_apart = (refl, refl, refl)

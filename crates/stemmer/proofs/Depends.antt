@@ -4,54 +4,51 @@ use mathlib.Core.List.{List, [], ◌∷◌}
 use Prim.Native.Nat.{ℕ, ◌≤◌}
 use native.Mathlib.Omega.{arith}
 use lib.ListN.{length, take}
+use Rattle.std.specs.Prelude.{Result, Ok, Err}
 use Rattle.utf8.specs.Utf8.{encode1, encode, first, filled, step, onto, run}
 use Rattle.utf8.proofs.Main.{main_one}
 use Rattle.definition.specs.Letters.{alef, jeem, lam, heh, waw}
 use Rattle.definition.specs.Words.{Word}
 use Rattle.definition.specs.Kind.{Kind, OPEN, DEFINED, kind}
 use Rattle.definition.specs.Normal.{normalise}
-use Rattle.definition.specs.Stem.{stem, chain}
+use Rattle.definition.specs.Stem.{stem}
 use Rattle.definition.specs.Depends.{in_letters, in_forms, with_mark}
 use Rattle.definition.proofs.Main.{main_depends, main_kind_needed}
 use Rattle.arabic.specs.Kinds.{flags, kind_of}
 use Rattle.arabic.proofs.Main.{main_grows}
 use Rattle.arabic.proofs.Gives.{normalise-scalars}
 use Rattle.arabic.proofs.Checking.{kind-back}
-use Rattle.stemmer.specs.declared.Answer.{Answer}
-use Rattle.stemmer.specs.declared.Answer.TheVariants.{Done}
-use Rattle.stemmer.specs.declared.Checked.{Checked}
-use Rattle.stemmer.specs.declared.Checked.TheVariants.{Overlong, Malformed, Accepted}
-use Rattle.stemmer.specs.declared.KindAnswer.{KindAnswer}
-use Rattle.stemmer.specs.Entries.{enough_room, code_of, count_of, letters, bytes_of, checked, fitting, answer, out_after, with_endings, kind_after, kind_answer}
+use Rattle.stemmer.specs.declared.outcome.BadWord.{BadWord}
+use Rattle.stemmer.specs.declared.outcome.BadWord.TheVariants.{TooLong, NotWellFormed}
+use Rattle.stemmer.specs.declared.outcome.Refusal.TheVariants.{Bad}
+use Rattle.stemmer.specs.Entries.{Answer, enough_room, code_of, count_of, kind_code, kind_or_open, letters, bytes_of, checked, fitting, answer, out_after, with_endings, kind_after, kind_answer}
 use Rattle.stemmer.specs.Blocks.{out_of, written}
 use Rattle.stemmer.specs.Depends.{SameKept, SameStem, fifth, sixth, marked, OneWordTwoKinds}
-use Rattle.stemmer.proofs.Answers.{short, scalars, spelling, after, refused_overlong, refused_malformed, part_is, with_same}
+use Rattle.stemmer.proofs.Answers.{short, scalars, spelling, after, refused_code, refused, part_is, number, with_same}
 use Rattle.stemmer.proofs.Blocks.{done, written-done}
 
 -- ---- the kind entry's answer
 
 -- its code tells how the checks came out
-same_checks : (c d : Checked) (k l : Kind) → (kind_after c k).code ≡ (kind_after d l).code → c ≡ d
-same_checks Overlong Overlong k l e = refl
-same_checks Overlong Malformed k l e = absurd (omega (arith, e))
-same_checks Overlong Accepted k l e = absurd (omega (arith, e))
-same_checks Malformed Overlong k l e = absurd (omega (arith, e))
-same_checks Malformed Malformed k l e = refl
-same_checks Malformed Accepted k l e = absurd (omega (arith, e))
-same_checks Accepted Overlong k l e = absurd (omega (arith, e))
-same_checks Accepted Malformed k l e = absurd (omega (arith, e))
-same_checks Accepted Accepted k l e = refl
+same_checks : (c d : Result (Unit {0}) BadWord) (k l : Kind) → kind_code (kind_after c k) ≡ kind_code (kind_after d l) → c ≡ d
+same_checks (Ok u) (Ok v) k l e = refl
+same_checks (Ok u) (Err TooLong) k l e = absurd (omega (arith, e))
+same_checks (Ok u) (Err NotWellFormed) k l e = absurd (omega (arith, e))
+same_checks (Err TooLong) (Ok v) k l e = absurd (omega (arith, e))
+same_checks (Err NotWellFormed) (Ok v) k l e = absurd (omega (arith, e))
+same_checks (Err TooLong) (Err TooLong) k l e = refl
+same_checks (Err TooLong) (Err NotWellFormed) k l e = absurd (omega (arith, e))
+same_checks (Err NotWellFormed) (Err TooLong) k l e = absurd (omega (arith, e))
+same_checks (Err NotWellFormed) (Err NotWellFormed) k l e = refl
 
 -- and of an accepted word its flag tells the kind
-kind-told : (word : List ℕ) → checked word ≡ Accepted → kind_of (kind_answer word).kind.defined ≡ kind (letters word)
+kind-told : (word : List ℕ) → checked word ≡ Ok tt → kind_of (kind_or_open (kind_answer word)).defined ≡ kind (letters word)
 unfolding kind_answer
-kind-told word e = ap (λ (c : Checked). kind_of (kind_after c (kind (letters word))).kind.defined) e ∙ kind-back (kind (letters word))
+kind-told word e =
+    ap (λ (c : Result (Unit {0}) BadWord). kind_of (kind_or_open (kind_after c (kind (letters word)))).defined) e ∙ kind-back (kind (letters word))
 
 -- ---- the stem entries
 module _ (u v : List ℕ) where
-  abbrev number : List ℕ → ℕ
-  number word = length (chain (letters word))
-
   -- equal answers and outputs hand back equal parts
   same-stem : ((room : ℕ) → answer stem u room ≡ answer stem v room) → ((room : ℕ) → code_of (answer stem v room) ≡ 0 → number u ≡ number v)
       → ((old : List ℕ) → out_of stem u old ≡ out_of stem v old) → SameStem u v
@@ -62,29 +59,25 @@ module _ (u v : List ℕ) where
   }
 
   -- both refused, or both accepted with the same stem and as many endings
-  by_checks : (c : Checked) → checked u ≡ c → checked v ≡ c → (c ≡ Accepted → (bytes_of stem u ≡ bytes_of stem v) × (number u ≡ number v)) → SameStem u v
-  by_checks Overlong d e f = same-stem
-      (λ room. sym (after stem u room Overlong d) ∙ after stem v room Overlong e)
-      (λ room z. absurd (omega (arith, ap code_of (after stem v room Overlong e))))
-      (λ old. sym (refused_overlong stem u old d).1.0 ∙ (refused_overlong stem v old e).1.0)
-  by_checks Malformed d e f = same-stem
-      (λ room. sym (after stem u room Malformed d) ∙ after stem v room Malformed e)
-      (λ room z. absurd (omega (arith, ap code_of (after stem v room Malformed e))))
-      (λ old. sym (refused_malformed stem u old d).1.0 ∙ (refused_malformed stem v old e).1.0)
-  by_checks Accepted d e f = same-stem answers (λ room z. (f refl).1) (λ old. (λ i. out_after (answers (length old) i) ((f refl).0 i) old))
+  by_checks : (c : Result (Unit {0}) BadWord) → checked u ≡ c → checked v ≡ c → (c ≡ Ok tt → (bytes_of stem u ≡ bytes_of stem v) × (number u ≡ number v)) → SameStem u v
+  by_checks (Err x) d e f = same-stem
+      (λ room. after stem u room (Err x) d ∙ sym (after stem v room (Err x) e))
+      (λ room z. absurd (refused_code (Bad x) (sym (ap (code_of {A = ℕ}) (after stem v room (Err x) e)) ∙ z)))
+      (λ old. sym (refused stem u old x d (Err (Bad x)) refl).out_after ∙ (refused stem v old x e (Err (Bad x)) refl).out_after)
+  by_checks (Ok y) d e f = same-stem answers (λ room z. (f refl).1) (λ old. (λ i. out_after (answers (length old) i) ((f refl).0 i) old))
     where
       answers : (room : ℕ) → answer stem u room ≡ answer stem v room
-      answers room = sym (after stem u room Accepted d) ∙ ap (λ (bs : List ℕ). fitting (length bs) room) (f refl).0 ∙ after stem v room Accepted e
+      answers room = after stem u room (Ok y) d ∙ ap (λ (bs : List ℕ). fitting (length bs) room) (f refl).0 ∙ sym (after stem v room (Ok y) e)
 
 -- ---- what is kept
 
 -- normalise writes all that it makes of an accepted word
-all-written : (word old : List ℕ) → checked word ≡ Accepted → enough_room ≤ length old → written normalise word old ≡ bytes_of normalise word
+all-written : (word old : List ℕ) → checked word ≡ Ok tt → enough_room ≤ length old → written normalise word old ≡ bytes_of normalise word
 unfolding bytes_of
 all-written word old e h = written-done normalise word e old (omega (arith, main_grows (letters word), ap length (spelling word e), short word e))
 
 -- and its bytes tell its letters
-same-letters : (u v : List ℕ) → checked u ≡ Accepted → checked v ≡ Accepted → bytes_of normalise u ≡ bytes_of normalise v → normalise (letters u) ≡ normalise (letters v)
+same-letters : (u v : List ℕ) → checked u ≡ Ok tt → checked v ≡ Ok tt → bytes_of normalise u ≡ bytes_of normalise v → normalise (letters u) ≡ normalise (letters v)
 unfolding bytes_of
 same-letters u v d e q =
     main_one (normalise (letters u)) (normalise (letters v)) (normalise-scalars (letters u) (scalars u d)) (normalise-scalars (letters v) (scalars v e)) q
@@ -92,7 +85,7 @@ same-letters u v d e q =
 pub kept-stem : (u v old old' : List ℕ) → SameKept u v old old' → SameStem u v
 unfolding bytes_of kind_answer
 kept-stem u v old old' s = by_checks u v (checked v) both refl (λ e.
-    let d : checked u ≡ Accepted = both ∙ e in
+    let d : checked u ≡ Ok tt = both ∙ e in
     let q : bytes_of normalise u ≡ bytes_of normalise v = sym (all-written u old d s.room) ∙ s.bytes ∙ all-written v old' e s.room' in
     let k : kind (letters u) ≡ kind (letters v) = sym (kind-told u d) ∙ ap kind_of s.kinds ∙ kind-told v e in
     let w = main_depends (letters u) (letters v) (same-letters u v d e q) k in
@@ -104,16 +97,16 @@ kept-stem u v old old' s = by_checks u v (checked v) both refl (λ e.
 -- equal answers and outputs of normalise, and equal answers of kind, are enough
 pub same_kept : (u v old : List ℕ) → enough_room ≤ length old → answer normalise u (length old) ≡ answer normalise v (length old) → out_of normalise u old ≡ out_of normalise v old
     → kind_answer u ≡ kind_answer v → SameKept u v old old
-same_kept u v old h a o k = record { room = h; room' = h; bytes = λ i. take (count_of (a i)) (o i); codes = λ i. (k i).code; kinds = λ i. (k i).kind.defined }
+same_kept u v old h a o k = record { room = h; room' = h; bytes = λ i. take (count_of (a i)) (o i); codes = ap kind_code k; kinds = λ i. (kind_or_open (k i)).defined }
 
 -- ---- document 01's fifth and sixth words, and the fifth with a mark
 
-spelt : (checked fifth ≡ Accepted) × (letters fifth ≡ in_letters) × (checked sixth ≡ Accepted) × (letters sixth ≡ in_forms) × (checked marked ≡ Accepted) × (letters marked ≡ with_mark)
+spelt : (checked fifth ≡ Ok tt) × (letters fifth ≡ in_letters) × (checked sixth ≡ Ok tt) × (letters sixth ≡ in_forms) × (checked marked ≡ Ok tt) × (letters marked ≡ with_mark)
 unfolding checked letters encode encode1 run step first filled onto
 spelt = (refl, refl, refl, refl, refl, refl)
 
 -- an accepted word with the letters w, and outputs that are long enough
-module _ (word : List ℕ) (w : Word) (e : checked word ≡ Accepted) (l : letters word ≡ w) where
+module _ (word : List ℕ) (w : Word) (e : checked word ≡ Ok tt) (l : letters word ≡ w) where
   bytes_are : (f : Word → Word) (t : Word) → f w ≡ t → bytes_of f word ≡ encode t
   unfolding bytes_of
   bytes_are f t q = ap (λ (x : Word). encode (f x)) l ∙ ap encode q
@@ -121,15 +114,15 @@ module _ (word : List ℕ) (w : Word) (e : checked word ≡ Accepted) (l : lette
   normalised_is : (old : List ℕ) (t : Word) → normalise w ≡ t → enough_room ≤ length old → written normalise word old ≡ encode t
   normalised_is old t q h = all-written word old e h ∙ bytes_are normalise t q
 
-  kind_is : (k : Kind) → kind w ≡ k → kind_answer word ≡ record { code = 0; kind = flags k }
+  kind_is : (k : Kind) → kind w ≡ k → kind_answer word ≡ Ok (flags k)
   unfolding kind_answer
   kind_is k q = λ i. kind_after (e i) ((ap kind l ∙ q) i)
 
-  stem_is : (old : List ℕ) (t : Word) → stem w ≡ t → length (encode t) ≤ length old → (answer stem word (length old) ≡ Done (length (encode t))) × (written stem word old ≡ encode t)
+  stem_is : (old : List ℕ) (t : Word) → stem w ≡ t → length (encode t) ≤ length old → (answer stem word (length old) ≡ Ok (length (encode t))) × (written stem word old ≡ encode t)
   stem_is old t q h =
       let b : bytes_of stem word ≡ encode t = bytes_are stem t q in
       let n : length (bytes_of stem word) ≡ length (encode t) = ap length b in
-      (done stem word e (length old) (omega (arith, n)) ∙ ap Done n, written-done stem word e old (omega (arith, n)) ∙ b)
+      (done stem word e (length old) (omega (arith, n)) ∙ ap Ok n, written-done stem word e old (omega (arith, n)) ∙ b)
 
 module _ (old : List ℕ) (h : enough_room ≤ length old) where
   -- the kind is needed
@@ -160,6 +153,6 @@ module _ (old : List ℕ) (h : enough_room ≤ length old) where
         room = h;
         room' = h;
         bytes = normalised_is fifth in_letters spelt.0 spelt.1 old in_letters m.letters h ∙ sym (normalised_is marked with_mark spelt.4 spelt.5 old in_letters m.mark h);
-        codes = ap (λ (a : KindAnswer). a.code) (k5 ∙ sym km);
-        kinds = ap (λ (a : KindAnswer). a.kind.defined) (k5 ∙ sym km);
+        codes = ap kind_code (k5 ∙ sym km);
+        kinds = λ i. (kind_or_open ((k5 ∙ sym km) i)).defined;
       }

@@ -4,13 +4,14 @@ use mathlib.Core.Bool.{true}
 use mathlib.Core.List.{List, [], ◌∷◌, ◌++◌, map, flatten}
 use Prim.Native.Nat.{ℕ, ◌+◌, ◌≤◌, ◌<◌}
 use lib.ListN.{length}
+use Rattle.std.specs.Prelude.{Ok, Err}
 use Rattle.utf8.specs.Utf8.{encode, well_formed}
 use Rattle.definition.specs.Letters.{hamza, alef, beh}
 use Rattle.definition.specs.Words.{Word, every}
 use Rattle.definition.specs.Normal.{normalise}
 use Rattle.definition.specs.Finish.{finish}
-use Rattle.stemmer.specs.declared.Answer.TheVariants.{Done, TooLong}
-use Rattle.stemmer.specs.declared.Checked.TheVariants.{Accepted}
+use Rattle.stemmer.specs.declared.outcome.BadWord.TheVariants.{TooLong}
+use Rattle.stemmer.specs.declared.outcome.Refusal.TheVariants.{Bad}
 use Rattle.stemmer.specs.Entries.{most_bytes, enough_room, code_of, bytes_of, checked, answer, out_after, kind_answer}
 use Rattle.stemmer.specs.Blocks.{out_of, written, Joins, Again, ligatures, alef_block, beh_block}
 use Rattle.stemmer.specs.Depends.{SameKept, SameStem, fifth, marked, OneWordTwoKinds}
@@ -44,7 +45,7 @@ main_anywhere = anywhere
 -- ---- once more
 
 -- an accepted word whose normalised form has at most 255 bytes: normalised again it is the same
-pub main_again : (word : List ℕ) → checked word ≡ Accepted → length (bytes_of normalise word) ≤ most_bytes → Again normalise word
+pub main_again : (word : List ℕ) → checked word ≡ Ok tt → length (bytes_of normalise word) ≤ most_bytes → Again normalise word
 main_again = normalise-again
 
 -- a normalised text of any length, cut into well-formed blocks in any way: normalised again it is the same
@@ -53,16 +54,16 @@ pub main_blocks_again : (text : List ℕ) (bs : List (List ℕ)) → well_formed
 main_blocks_again = blocks_again
 
 -- every accepted word: finished it has as many bytes, and finished again it is the same
-pub main_finish_size : (word : List ℕ) → checked word ≡ Accepted → length (bytes_of finish word) ≡ length word
+pub main_finish_size : (word : List ℕ) → checked word ≡ Ok tt → length (bytes_of finish word) ≡ length word
 main_finish_size = finish_keeps
 
-pub main_finish_again : (word : List ℕ) → checked word ≡ Accepted → Again finish word
+pub main_finish_again : (word : List ℕ) → checked word ≡ Ok tt → Again finish word
 main_finish_again = finish-again
 
 -- ---- the bounds are needed for the answers
 
 -- a longer word is refused with code 1, whatever is asked and lent: so what is said of answers holds within the bounds alone
-pub main_too_long : (f : Word → Word) (word : List ℕ) (room : ℕ) → most_bytes < length word → answer f word room ≡ TooLong
+pub main_too_long : (f : Word → Word) (word : List ℕ) (room : ℕ) → most_bytes < length word → answer f word room ≡ Err (Bad TooLong)
 main_too_long = over_long
 
 pub main_joined_bound : (f : Word → Word) (u v : List ℕ) → Joins f u v → length u + length v ≤ most_bytes
@@ -72,17 +73,17 @@ pub main_again_bound : (f : Word → Word) (word : List ℕ) → Again f word �
 main_again_bound = again_bound
 
 -- 64 ligatures have 192 bytes; normalised they have 256, which are refused
-pub main_ligatures : (length ligatures ≡ 192) × (answer normalise ligatures enough_room ≡ Done 256) × (answer normalise (bytes_of normalise ligatures) enough_room ≡ TooLong)
+pub main_ligatures : (length ligatures ≡ 192) × (answer normalise ligatures enough_room ≡ Ok 256) × (answer normalise (bytes_of normalise ligatures) enough_room ≡ Err (Bad TooLong))
 main_ligatures = grown
 
 -- and no shorter word becomes so long
-pub main_short : (word : List ℕ) → checked word ≡ Accepted → length word < 192 → length (bytes_of normalise word) ≤ most_bytes
+pub main_short : (word : List ℕ) → checked word ≡ Ok tt → length word < 192 → length (bytes_of normalise word) ≤ most_bytes
 main_short = short_normalised
 
 -- ---- finishing has no law of two words joined
 
 -- 0623 and 0628 finished together, and finished each: the last letter of the first changes in another way
-pub main_finish_apart : (answer finish (alef_block ++ beh_block) enough_room ≡ Done 4) × (bytes_of finish (alef_block ++ beh_block) ≡ encode (alef ∷ beh ∷ []))
+pub main_finish_apart : (answer finish (alef_block ++ beh_block) enough_room ≡ Ok 4) × (bytes_of finish (alef_block ++ beh_block) ≡ encode (alef ∷ beh ∷ []))
     × (bytes_of finish alef_block ++ bytes_of finish beh_block ≡ encode (hamza ∷ beh ∷ []))
 main_finish_apart = finished_apart
 

@@ -1,5 +1,5 @@
 -- What an index keeps of a word in place of the typed one, and what two words that it cannot tell apart have in common (request A13).
-use Rattle.std.specs.Prelude.{ℕ, ◌≤◌, ◌≡◌, List, [], ◌∷◌, length}
+use Rattle.std.specs.Prelude.{ℕ, ◌≤◌, ◌≡◌, List, [], ◌∷◌, length, Ok}
 use Rattle.utf8.specs.Utf8.{encode}
 use Rattle.definition.specs.Letters.{alef, jeem, lam, heh, waw}
 use Rattle.definition.specs.Kind.{OPEN, DEFINED}
@@ -7,8 +7,7 @@ use Rattle.definition.specs.Normal.{normalise}
 use Rattle.definition.specs.Stem.{stem}
 use Rattle.definition.specs.Depends.{in_letters, in_forms, with_mark}
 use Rattle.arabic.specs.Kinds.{flags}
-use Rattle.stemmer.specs.declared.Answer.TheVariants.{Done}
-use Rattle.stemmer.specs.Entries.{enough_room, bytes_of, answer, part_after, kind_answer, stem_entry}
+use Rattle.stemmer.specs.Entries.{enough_room, kind_code, kind_or_open, bytes_of, answer, part_after, kind_answer, stem_entry}
 use Rattle.stemmer.specs.Blocks.{out_of, written}
 
 -- normalise writes the same bytes for both, into outputs of 340 bytes or more, and kind answers the same code and says the same of both: defined or not
@@ -16,8 +15,8 @@ pub record SameKept (u v old old' : List ℕ) : Type 0 where
   pub room : enough_room ≤ length old
   pub room' : enough_room ≤ length old'
   pub bytes : written normalise u old ≡ written normalise v old'
-  pub codes : (kind_answer u).code ≡ (kind_answer v).code
-  pub kinds : (kind_answer u).kind.defined ≡ (kind_answer v).kind.defined
+  pub codes : kind_code (kind_answer u) ≡ kind_code (kind_answer v)
+  pub kinds : (kind_or_open (kind_answer u)).defined ≡ (kind_or_open (kind_answer v)).defined
 
 -- the stem entries answer the same for both, the number of endings too, leave the same output, and hand back the same part, whatever output is lent
 pub record SameStem (u v : List ℕ) : Type 0 where
@@ -39,9 +38,9 @@ marked = encode with_mark
 pub record OneWordTwoKinds (old : List ℕ) : Type 0 where
   pub fifth_bytes : written normalise fifth old ≡ fifth
   pub sixth_bytes : written normalise sixth old ≡ fifth
-  pub fifth_kind : kind_answer fifth ≡ record { code = 0; kind = flags DEFINED }
-  pub sixth_kind : kind_answer sixth ≡ record { code = 0; kind = flags OPEN }
-  pub fifth_answer : answer stem fifth (length old) ≡ Done 6
-  pub sixth_answer : answer stem sixth (length old) ≡ Done 8
+  pub fifth_kind : kind_answer fifth ≡ Ok (flags DEFINED)
+  pub sixth_kind : kind_answer sixth ≡ Ok (flags OPEN)
+  pub fifth_answer : answer stem fifth (length old) ≡ Ok 6
+  pub sixth_answer : answer stem sixth (length old) ≡ Ok 8
   pub fifth_stem : written stem fifth old ≡ encode (waw ∷ jeem ∷ heh ∷ [])
   pub sixth_stem : written stem sixth old ≡ encode (alef ∷ lam ∷ waw ∷ jeem ∷ [])

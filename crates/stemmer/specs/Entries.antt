@@ -1,19 +1,22 @@
 -- What the entries answer for the bytes of a word and an output of so many bytes, and what the output holds afterwards.
-use Rattle.std.specs.Prelude.{ℕ, ◌≡◌, not, List, [], ◌∷◌, ◌++◌, ltb, length, take, drop}
+use Rattle.std.specs.Prelude.{ℕ, ◌≤◌, ◌≡◌, not, List, [], ◌∷◌, ◌++◌, ltb, length, take, drop, Result, Ok, Err}
 use Rattle.std.proofs.Math.Option.{Option, none, some}
 use Rattle.utf8.specs.Utf8.{encode, decode, well_formed}
 use Rattle.definition.specs.Words.{Word, pick}
-use Rattle.definition.specs.Kind.{Kind, OPEN, kind}
+use Rattle.definition.specs.Kind.{Kind as WordKind, OPEN, kind}
 use Rattle.definition.specs.Stem.{stem, chain}
 use Rattle.definition.specs.Demand3.{Demand3}
 use Rattle.definition.specs.Number.{FewEndings}
+use Rattle.snowball.specs.Chars.{started}
+use Rattle.snowball.specs.Stands.{Stands}
+use Rattle.snowball.specs.declared.env.Env.{Env}
+use Rattle.arabic.specs.declared.kind.Kind.{Kind}
 use Rattle.arabic.specs.Kinds.{flags}
-use Rattle.stemmer.specs.declared.Answer.{Answer}
-use Rattle.stemmer.specs.declared.Answer.TheVariants.{Done, TooLong, NotWellFormed, NoRoom}
-use Rattle.stemmer.specs.declared.StemAnswer.{StemAnswer}
-use Rattle.stemmer.specs.declared.Checked.{Checked}
-use Rattle.stemmer.specs.declared.Checked.TheVariants.{Overlong, Malformed, Accepted}
-use Rattle.stemmer.specs.declared.KindAnswer.{KindAnswer}
+use Rattle.stemmer.specs.declared.outcome.Stem.{Stem}
+use Rattle.stemmer.specs.declared.outcome.BadWord.{BadWord}
+use Rattle.stemmer.specs.declared.outcome.BadWord.TheVariants.{TooLong, NotWellFormed}
+use Rattle.stemmer.specs.declared.outcome.Refusal.{Refusal}
+use Rattle.stemmer.specs.declared.outcome.Refusal.TheVariants.{Bad, NoRoom}
 
 -- the most bytes that a word may have
 abbrev pub most_bytes : ℕ
@@ -23,18 +26,43 @@ most_bytes = 255
 abbrev pub enough_room : ℕ
 enough_room = 340
 
--- document 01's code and count of an answer
-abbrev pub code_of : Answer → ℕ
-code_of (Done n) = 0
-code_of TooLong = 1
-code_of NotWellFormed = 2
-code_of NoRoom = 3
+-- ---- what is answered
 
+-- how many bytes were written, or a refusal
+abbrev pub Answer : Type 0
+Answer = Result ℕ Refusal
+
+-- document 01's code of a refusal
+abbrev pub refusal_code : Refusal → ℕ
+refusal_code (Bad TooLong) = 1
+refusal_code (Bad NotWellFormed) = 2
+refusal_code NoRoom = 3
+
+-- and of an answer
+abbrev pub code_of : {A : Type 0} → Result A Refusal → ℕ
+code_of (Ok x) = 0
+code_of (Err e) = refusal_code e
+
+-- the number of bytes that were written: none on refusal
 abbrev pub count_of : Answer → ℕ
-count_of (Done n) = n
-count_of TooLong = 0
-count_of NotWellFormed = 0
-count_of NoRoom = 0
+count_of (Ok n) = n
+count_of (Err e) = 0
+
+-- the number of endings that were cut: none on refusal
+abbrev pub endings_of : Result Stem Refusal → ℕ
+endings_of (Ok s) = s.endings
+endings_of (Err e) = 0
+
+-- the code of the kind entry's answer, and the kind: open on refusal
+abbrev pub kind_code : Result Kind BadWord → ℕ
+kind_code (Ok k) = 0
+kind_code (Err e) = refusal_code (Bad e)
+
+abbrev pub kind_or_open : Result Kind BadWord → Kind
+kind_or_open (Ok k) = k
+kind_or_open (Err e) = flags OPEN
+
+-- ---- a word's letters, and results in bytes
 
 -- the letters of a word's bytes, none where they are not well formed
 abbrev pub or_none : Option Word → Word
@@ -48,65 +76,71 @@ letters word = or_none (decode word)
 unfoldable pub bytes_of : (Word → Word) → List ℕ → List ℕ
 bytes_of f word = encode (f (letters word))
 
+-- ---- the checks
+
 -- a result of n bytes, for an output of room bytes
 unfoldable pub fitting : ℕ → ℕ → Answer
-fitting n room = pick (ltb room n) NoRoom (Done n)
+fitting n room = pick (ltb room n) (Err NoRoom) (Ok n)
 
 -- document 01's first two checks, in their order
-unfoldable pub checked : List ℕ → Checked
-checked word = pick (ltb most_bytes (length word)) Overlong (pick (not (well_formed word)) Malformed Accepted)
+unfoldable pub checked : List ℕ → Result (Unit {0}) BadWord
+checked word = pick (ltb most_bytes (length word)) (Err TooLong) (pick (not (well_formed word)) (Err NotWellFormed) (Ok tt))
 
 -- the answer after them, which for an accepted word is a
-abbrev pub after_checks : Checked → Answer → Answer
-after_checks Overlong a = TooLong
-after_checks Malformed a = NotWellFormed
-after_checks Accepted a = a
+abbrev pub after_checks : Result (Unit {0}) BadWord → Answer → Answer
+after_checks (Ok u) a = a
+after_checks (Err e) a = Err (Bad e)
 
 -- document 01's table: the first two checks, and the third
 unfoldable pub answer : (Word → Word) → List ℕ → ℕ → Answer
 answer f word room = after_checks (checked word) (fitting (length (bytes_of f word)) room)
 
+-- ---- the work on an environment
+
+-- It takes each environment that stands for a word of at most 255 bytes, and then gives one that stands for f of the word. pre says which it takes, post
+-- what it gives for one.
+pub record Works (pre : Env → Type 0) (post : Env → Env → Type 0) (f : Word → Word) : Type 0 where
+  pub takes : (env : Env) (w : Word) → Stands env (started w) → env.limit ≤ most_bytes → pre env
+  pub gives : (env after : Env) (w : Word) → Stands env (started w) → post env after → Stands after (started (f w))
+
+-- ---- the output
+
 -- every byte of the output after an answer: the result in front and the old bytes behind, or the old bytes alone
 unfoldable pub out_after : Answer → List ℕ → List ℕ → List ℕ
-out_after (Done n) result old = result ++ drop n old
-out_after TooLong result old = old
-out_after NotWellFormed result old = old
-out_after NoRoom result old = old
-
--- the stem entry's answer: an answer, and the number m of the endings cut, 0 on refusal
-abbrev pub numbered : Answer → ℕ → StemAnswer
-numbered a m = record { answer = a; endings = m }
-
-abbrev pub with_endings : Answer → ℕ → StemAnswer
-with_endings (Done n) m = numbered (Done n) m
-with_endings TooLong m = numbered TooLong 0
-with_endings NotWellFormed m = numbered NotWellFormed 0
-with_endings NoRoom m = numbered NoRoom 0
+out_after (Ok n) result old = result ++ drop n old
+out_after (Err e) result old = old
 
 -- the result as a part of its own, empty on refusal
 unfoldable pub part_after : Answer → List ℕ → List ℕ
-part_after (Done n) result = result
-part_after TooLong result = []
-part_after NotWellFormed result = []
-part_after NoRoom result = []
+part_after (Ok n) result = result
+part_after (Err e) result = []
 
--- the kind entry: the same first two checks, and open on refusal
-abbrev pub kind_after : Checked → Kind → KindAnswer
-kind_after Overlong k = record { code = 1; kind = flags OPEN }
-kind_after Malformed k = record { code = 2; kind = flags OPEN }
-kind_after Accepted k = record { code = 0; kind = flags k }
+-- ---- the kind entry: the same first two checks
 
-unfoldable pub kind_answer : List ℕ → KindAnswer
+abbrev pub kind_after : Result (Unit {0}) BadWord → WordKind → Result Kind BadWord
+kind_after (Ok u) k = Ok (flags k)
+kind_after (Err e) k = Err e
+
+unfoldable pub kind_answer : List ℕ → Result Kind BadWord
 kind_answer word = kind_after (checked word) (kind (letters word))
 
--- the stem entry: the bytes, code and count, and with them the number of endings, which is the length of the chain
+-- ---- the stem entry: the bytes, code and count, and with them the number of endings, which is the length of the chain
+
 abbrev pub stem_bytes : List ℕ → List ℕ
 stem_bytes = bytes_of stem
 
 abbrev pub stem_answer : List ℕ → ℕ → Answer
 stem_answer = answer stem
 
-abbrev pub stem_entry : List ℕ → ℕ → StemAnswer
+abbrev pub with_endings : Answer → ℕ → Result Stem Refusal
+with_endings (Ok n) m = Ok (record { count = n; endings = m })
+with_endings (Err e) m = Err e
+
+abbrev pub without_endings : Result Stem Refusal → Answer
+without_endings (Ok s) = Ok s.count
+without_endings (Err e) = Err e
+
+abbrev pub stem_entry : List ℕ → ℕ → Result Stem Refusal
 stem_entry word room = with_endings (answer stem word room) (length (chain (letters word)))
 
 -- demand 3, of the letters that stand in front of the output after an answer with code 0

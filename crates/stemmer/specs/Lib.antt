@@ -1,4 +1,5 @@
--- What the entries answer, and what index builders do with it.
+-- What the entries answer, and what index builders do with it; what is printed of a refusal.
 pub mod Entries
+pub mod Messages
 pub mod Blocks
 pub mod Depends

@@ -1,33 +1,33 @@
 -- The letters of a text from a place on, one after the other. Assumes nothing.
 use mathlib.Core.Path.{◌≡◌, refl, sym, ap, ◌∙◌}
-use mathlib.Core.List.{List, [], ◌∷◌, ◌++◌, append_assoc}
+use mathlib.Core.List.{List, [], ◌∷◌, ◌++◌}
 use Prim.Native.Nat.{ℕ, ◌+◌, ◌≤◌, ◌<◌}
 use native.Mathlib.Omega.{arith}
-use lib.ListN.{length, take, drop, length-append, take-append-drop}
-use lib.Seq.{drop-drop, drop-append_seam, length-take-le}
+use lib.ListN.{length, drop, length-append}
+use lib.Seq.{drop-drop, drop-append_seam}
 use Rattle.utf8.specs.Utf8.{Scalars, encode1, encode}
 use Rattle.utf8.proofs.Text.{encode1_pos, encode_injective}
 use Rattle.definition.specs.Words.{Word}
 use Rattle.utf8.specs.Letters.{LetterAt, SomeLetter}
 use Rattle.utf8.specs.Spelt.{Encodes}
 
--- What every letter loop knows: word is what the first limit bytes of the old text encode, and rest are its letters that stand in the text from the byte i on.
-pub record Ahead (old : List ℕ) (limit : ℕ) (text : List ℕ) (i : ℕ) : Type 0 where
+-- What every letter loop knows: word is what the old text encodes, and rest are its letters that stand in the text from the byte i on.
+pub record Ahead (old text : List ℕ) (i : ℕ) : Type 0 where
   pub word : Word
-  pub whole : Encodes (take limit old) word
+  pub whole : Encodes old word
   pub rest : Word
   pub scalars : Scalars rest
-  pub bytes : drop i text ≡ encode rest ++ drop limit old
-  pub ends : i + length (encode rest) ≡ limit
+  pub bytes : drop i text ≡ encode rest
+  pub ends : i + length (encode rest) ≡ length old
 
-abbrev pub start : (text : List ℕ) (limit : ℕ) (cs : Word) → limit ≤ length text → Encodes (take limit text) cs → Ahead text limit text 0
-start text limit cs h e = record {
+abbrev pub start : (text : List ℕ) (cs : Word) → Encodes text cs → Ahead text text 0
+start text cs e = record {
   word = cs;
   whole = e;
   rest = cs;
   scalars = e.0;
-  bytes = sym (take-append-drop limit text) ∙ ap (λ (l : List ℕ). l ++ drop limit text) e.1;
-  ends = omega (arith, ap length e.1, length-take-le limit text h);
+  bytes = e.1;
+  ends = omega (arith, ap length e.1);
 }
 
 no_size : length (encode []) ≡ 0
@@ -41,24 +41,24 @@ cons_bytes c t = refl
 pub cons_size : (c : ℕ) (t : Word) → length (encode (c ∷ t)) ≡ length (encode1 c) + length (encode t)
 cons_size c t = ap length (cons_bytes c t) ∙ length-append (encode1 c) (encode t)
 
--- the first letter c of rest, and the letters t behind it, with the bytes tail behind them
-pub record Next (text : List ℕ) (i limit : ℕ) (tail : List ℕ) (rest : Word) : Type 0 where
+-- the first letter c of rest, and the letters t behind it, which end at limit
+pub record Next (text : List ℕ) (i limit : ℕ) (rest : Word) : Type 0 where
   pub c : ℕ
   pub t : Word
   pub is : rest ≡ c ∷ t
-  pub at : LetterAt text i c (encode t ++ tail)
+  pub at : LetterAt text i c (encode t)
   pub scalars : Scalars t
   pub ends : i + length (encode1 c) + length (encode t) ≡ limit
   pub wide : 1 ≤ length (encode1 c)
 
-module _ (text : List ℕ) (i limit : ℕ) (tail : List ℕ) where
-  next_of : (rest : Word) → Scalars rest → drop i text ≡ encode rest ++ tail → i + length (encode rest) ≡ limit → i < limit → Next text i limit tail rest
+module _ (text : List ℕ) (i limit : ℕ) where
+  next_of : (rest : Word) → Scalars rest → drop i text ≡ encode rest → i + length (encode rest) ≡ limit → i < limit → Next text i limit rest
   next_of [] s b e h = absurd (omega (arith, e, no_size))
   next_of (c ∷ t) s b e h = record {
     c = c;
     t = t;
     is = refl;
-    at = (s.0, b ∙ ap (λ (l : List ℕ). l ++ tail) (cons_bytes c t) ∙ append_assoc (encode1 c) (encode t) tail);
+    at = (s.0, b ∙ cons_bytes c t);
     scalars = s.1;
     ends = omega (arith, e, cons_size c t);
     wide = encode1_pos c;
@@ -68,23 +68,23 @@ module _ (text : List ℕ) (i limit : ℕ) (tail : List ℕ) where
   none_of [] e h = refl
   none_of (c ∷ t) e h = absurd (omega (arith, e, cons_size c t, encode1_pos c))
 
-module _ {old : List ℕ} {limit : ℕ} {text : List ℕ} {i : ℕ} (v : Ahead old limit text i) where
+module _ {old text : List ℕ} {i : ℕ} (v : Ahead old text i) where
   -- the bytes are those of this word only
-  pub only : (cs : Word) → Encodes (take limit old) cs → v.word ≡ cs
+  pub only : (cs : Word) → Encodes old cs → v.word ≡ cs
   only cs e = encode_injective v.word cs v.whole.0 e.0 (sym v.whole.1 ∙ e.1)
 
-  pub none_left : limit ≤ i → v.rest ≡ []
-  none_left = none_of text i limit (drop limit old) v.rest v.ends
+  pub none_left : length old ≤ i → v.rest ≡ []
+  none_left = none_of text i (length old) v.rest v.ends
 
-  pub next : i < limit → Next text i limit (drop limit old) v.rest
-  next = next_of text i limit (drop limit old) v.rest v.scalars v.bytes v.ends
+  pub next : i < length old → Next text i (length old) v.rest
+  next = next_of text i (length old) v.rest v.scalars v.bytes v.ends
 
-  pub letter : i < limit → SomeLetter text i
-  letter h = let n = next h in (n.c, encode n.t ++ drop limit old, n.at)
+  pub letter : i < length old → SomeLetter text i
+  letter h = let n = next h in (n.c, encode n.t, n.at)
 
   -- past the next letter, also where the text in front has changed
-  abbrev pub past : (n : Next text i limit (drop limit old) v.rest) (new : List ℕ) (j : ℕ) → j ≡ i + length (encode1 n.c) → drop j new ≡ drop j text
-      → Ahead old limit new j
+  abbrev pub past : (n : Next text i (length old) v.rest) (new : List ℕ) (j : ℕ) → j ≡ i + length (encode1 n.c) → drop j new ≡ drop j text
+      → Ahead old new j
   past n new j e d = record {
     word = v.word;
     whole = v.whole;
@@ -95,6 +95,6 @@ module _ {old : List ℕ} {limit : ℕ} {text : List ℕ} {i : ℕ} (v : Ahead o
         ∙ ap (λ (k : ℕ). drop k text) e
         ∙ sym (drop-drop (length (encode1 n.c)) i text)
         ∙ ap (drop (length (encode1 n.c))) n.at.1
-        ∙ drop-append_seam (encode1 n.c) (encode n.t ++ drop limit old);
+        ∙ drop-append_seam (encode1 n.c) (encode n.t);
     ends = omega (arith, e, n.ends);
   }

@@ -2,7 +2,7 @@
 use mathlib.Core.Path.{◌≡◌, refl, sym, ap, ◌∙◌}
 use mathlib.Core.Logic.{⊎_elim}
 use mathlib.Core.List.{List, ◌++◌}
-use Prim.Native.Nat.{ℕ, ◌+◌, ◌-◌, ◌*◌, ◌/◌, ◌%◌, ◌≤◌, ◌<◌}
+use Prim.Native.Nat.{ℕ, ◌+◌, ◌*◌, ◌/◌, ◌%◌, ◌≤◌, ◌<◌}
 use native.Mathlib.Omega.{arith}
 use lib.ListN.{length, get_or, length-append, length-drop}
 use lib.Seq.{get_or-drop}
@@ -127,37 +127,29 @@ module _ (text : List ℕ) (i : ℕ) (p : SomeLetter text i) where
   bytes_4 : 0xF0 ≤ get_or text i 0 → Four text i c
   bytes_4 h = by_width (λ x. absurd (omega arith)) (λ x. absurd (omega arith)) (λ x. absurd (omega arith)) (λ x. x)
 
-  pub marks_2 : 0x80 ≤ get_or text i 0 → get_or text i 0 < 0xE0 → (0xC0 ≤ get_or text i 0) × (0x80 ≤ get_or text (i + 1) 0)
-  marks_2 h k = let x = bytes_2 h k in omega arith
-
-  pub marks_3 : 0xE0 ≤ get_or text i 0 → get_or text i 0 < 0xF0 → (0x80 ≤ get_or text (i + 1) 0) × (0x80 ≤ get_or text (i + 2) 0)
-  marks_3 h k = let x = bytes_3 h k in omega arith
-
-  pub marks_4 : 0xF0 ≤ get_or text i 0 → (0x80 ≤ get_or text (i + 1) 0) × (0x80 ≤ get_or text (i + 2) 0) × (0x80 ≤ get_or text (i + 3) 0)
-  marks_4 h = let x = bytes_4 h in omega arith
-
   abbrev Is : ℕ → ℕ → Type 0
   Is r n = (r ≡ p.0) × (n ≡ length (encode1 p.0))
 
   pub reads_1 : (r : ℕ) → get_or text i 0 < 0x80 → r ≡ get_or text i 0 → Is r 1
   reads_1 r h e = let x = bytes_1 h in (omega arith, sym x.width)
 
-  pub reads_2 : (r : ℕ) → 0x80 ≤ get_or text i 0 → get_or text i 0 < 0xE0 → r ≡ (get_or text i 0 - 0xC0) * 64 + (get_or text (i + 1) 0 - 0x80) → Is r 2
+  pub reads_2 : (r : ℕ) → 0x80 ≤ get_or text i 0 → get_or text i 0 < 0xE0 → r ≡ get_or text i 0 % 32 * 64 + get_or text (i + 1) 0 % 64 → Is r 2
   reads_2 r h k e = let x = bytes_2 h k in (omega arith, sym x.width)
 
   pub reads_3 : (r : ℕ) → 0xE0 ≤ get_or text i 0 → get_or text i 0 < 0xF0
-      → r ≡ ((get_or text i 0 - 0xE0) * 64 + (get_or text (i + 1) 0 - 0x80)) * 64 + (get_or text (i + 2) 0 - 0x80) → Is r 3
+      → r ≡ (get_or text i 0 % 16 * 64 + get_or text (i + 1) 0 % 64) * 64 + get_or text (i + 2) 0 % 64 → Is r 3
   reads_3 r h k e =
       let x = bytes_3 h k in
-      let y : (get_or text i 0 - 0xE0) * 64 + (get_or text (i + 1) 0 - 0x80) ≡ c / 64 = omega arith in
+      let y : get_or text i 0 % 16 * 64 + get_or text (i + 1) 0 % 64 ≡ c / 64 = omega arith in
       (omega arith, sym x.width)
 
   pub reads_4 : (r : ℕ) → 0xF0 ≤ get_or text i 0
-      → r ≡ (((get_or text i 0 - 0xF0) * 64 + (get_or text (i + 1) 0 - 0x80)) * 64 + (get_or text (i + 2) 0 - 0x80)) * 64 + (get_or text (i + 3) 0 - 0x80) → Is r 4
+      → r ≡ ((get_or text i 0 % 8 * 64 + get_or text (i + 1) 0 % 64) * 64 + get_or text (i + 2) 0 % 64) * 64 + get_or text (i + 3) 0 % 64 → Is r 4
   reads_4 r h e =
       let x = bytes_4 h in
+      let top = scalar_top c p.2.0 in
       let j : c / 262144 * 64 + c / 4096 % 64 ≡ c / 4096 = omega arith in
       let k : c / 4096 * 64 + c / 64 % 64 ≡ c / 64 = omega arith in
-      let y : (get_or text i 0 - 0xF0) * 64 + (get_or text (i + 1) 0 - 0x80) ≡ c / 4096 = omega arith in
-      let z : ((get_or text i 0 - 0xF0) * 64 + (get_or text (i + 1) 0 - 0x80)) * 64 + (get_or text (i + 2) 0 - 0x80) ≡ c / 64 = omega arith in
+      let y : get_or text i 0 % 8 * 64 + get_or text (i + 1) 0 % 64 ≡ c / 4096 = omega arith in
+      let z : (get_or text i 0 % 8 * 64 + get_or text (i + 1) 0 % 64) * 64 + get_or text (i + 2) 0 % 64 ≡ c / 64 = omega arith in
       (omega arith, sym x.width)

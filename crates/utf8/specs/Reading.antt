@@ -1,24 +1,26 @@
--- What `well_formed` keeps of a reader's state: how many bytes of a letter are missing, and the range of the next of them.
-use Rattle.std.specs.Prelude.{ℕ, suc, ◌-◌, Bool, eqb, leb}
-use Rattle.definition.specs.Words.{pick}
-use Rattle.utf8.specs.Utf8.{State, whole, more, bad, first}
+-- What `well_formed` keeps of a reader's state: all but the bits and letters read so far.
+use Rattle.std.specs.Prelude.{Option, Some, None}
+use Rattle.utf8.specs.Utf8.{State, whole, more, bad}
 use Rattle.utf8.specs.declared.Reading.{Reading}
+use Rattle.utf8.specs.declared.Reading.TheVariants.{Whole, One, Two, Three, BehindE0, BehindED, BehindF0, BehindF4}
 
--- n bytes are missing, as after the second byte of a letter
-abbrev pub left : ℕ → Reading
-left n = record { missing = n; lo = 0x80; hi = 0xBF }
+-- a state with no bits and no letter
+abbrev pub bare : State → State
+bare (whole c) = whole 0
+bare (more k a lo hi) = more k 0 lo hi
+bare bad = bad
 
--- past what is not well formed a byte is missing that no byte is
-abbrev pub lost : Reading
-lost = record { missing = 1; lo = 1; hi = 0 }
+abbrev pub state_of : Reading → State
+state_of Whole = whole 0
+state_of One = more 0 0 0x80 0xBF
+state_of Two = more 1 0 0x80 0xBF
+state_of Three = more 2 0 0x80 0xBF
+state_of BehindE0 = more 1 0 0xA0 0xBF
+state_of BehindED = more 1 0 0x80 0x9F
+state_of BehindF0 = more 2 0 0x90 0xBF
+state_of BehindF4 = more 2 0 0x80 0x8F
 
-abbrev pub forget : State → Reading
-forget (whole c) = left 0
-forget (more k a lo hi) = record { missing = suc k; lo = lo; hi = hi }
-forget bad = lost
-
-abbrev pub next_of : Reading → ℕ → Reading
-next_of r b = pick (eqb r.missing 0) (forget (first b)) (pick (leb r.lo b) (pick (leb b r.hi) (left (r.missing - 1)) lost) lost)
-
-abbrev pub is_whole : Reading → Bool
-is_whole r = eqb r.missing 0
+-- past what is not well formed a reader stands nowhere
+abbrev pub standing : Option Reading → State
+standing (Some r) = state_of r
+standing None = bad

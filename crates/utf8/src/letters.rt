@@ -1,132 +1,93 @@
 // Single letters in bytes: one is read off a text, one is written into it.
-ghost use Rattle.std.specs.Prelude.{◌≡◌, ◌+◌, ◌-◌, ◌*◌, ◌%◌, ◌<◌, ◌≤◌, length};
+ghost use Rattle.std.specs.Prelude.{◌≡◌, ◌+◌, ◌*◌, ◌%◌, ◌^◌, ◌<◌, ◌≤◌, length};
 ghost use Rattle.utf8.specs.Utf8.{encode1};
 ghost use Rattle.utf8.specs.Letters.{SomeLetter, Read, Wrote};
 
 // A letter as a number, and how many bytes it has.
-#[derive(Drop)]
+#[derive(Clone, Copy)]
 pub struct Letter {
     pub code: u32,
     pub width: usize,
 }
 
-// The byte as a u32, the type of a letter's number.
-fn code_of(b: u8) -> u32
-    ensures { result ≡ b }
+// A letter's bits so far, and the last six bits of one byte more.
+fn joined(bits: u32, byte: u8) -> u32
+    requires { bits < 2 ^ 24 }
+    ensures { result ≡ bits * 64 + byte % 64 }
 {
-    b as u32
-}
-
-// The six bits of a byte behind a letter's first.
-fn bits(b: u8) -> u32
-    requires { 0x80 ≤ b }
-    ensures { result ≡ b - 0x80 }
-{
-    code_of(b) - 0x80
-}
-
-// The letter of two bytes.
-fn two(a: u8, b: u8) -> u32
-    requires { (0xC0 ≤ a) × (0x80 ≤ b) }
-    ensures { result ≡ (a - 0xC0) * 64 + (b - 0x80) }
-{
-    (code_of(a) - 0xC0) * 64 + bits(b)
-}
-
-// The letter of three bytes.
-fn three(a: u8, b: u8, c: u8) -> u32
-    requires { (0xE0 ≤ a) × (0x80 ≤ b) × (0x80 ≤ c) }
-    ensures { result ≡ ((a - 0xE0) * 64 + (b - 0x80)) * 64 + (c - 0x80) }
-{
-    ((code_of(a) - 0xE0) * 64 + bits(b)) * 64 + bits(c)
-}
-
-// The letter of four bytes.
-fn four(a: u8, b: u8, c: u8, d: u8) -> u32
-    requires { (0xF0 ≤ a) × (0x80 ≤ b) × (0x80 ≤ c) × (0x80 ≤ d) }
-    ensures { result ≡ (((a - 0xF0) * 64 + (b - 0x80)) * 64 + (c - 0x80)) * 64 + (d - 0x80) }
-{
-    (((code_of(a) - 0xF0) * 64 + bits(b)) * 64 + bits(c)) * 64 + bits(d)
+    bits * 64 + u32::from(byte % 64)
 }
 
 // The letter that starts at the cursor.
+#[tactic(auto, using(crate::proofs::ReadLetter::room_2, crate::proofs::ReadLetter::room_3, crate::proofs::ReadLetter::room_4))]
 pub fn read_letter(text: &[u8], cursor: usize) -> Letter
     requires { SomeLetter text.now cursor }
     ensures { Read text.now cursor result }
 {
-    let a = text[cursor];
-    if a < 0x80 {
-        return Letter {
-            code: code_of(a),
+    let first = text[cursor];
+    match first {
+        0x00..=0x7F => Letter {
+            code: u32::from(first),
             width: 1,
-        };
-    }
-    let b = text[cursor + 1];
-    if a < 0xE0 {
-        return Letter {
-            code: two(a, b),
+        },
+        0x80..=0xDF => Letter {
+            code: joined(u32::from(first % 32), text[cursor + 1]),
             width: 2,
-        };
-    }
-    let c = text[cursor + 2];
-    if a < 0xF0 {
-        return Letter {
-            code: three(a, b, c),
-            width: 3,
-        };
-    }
-    let d = text[cursor + 3];
-    Letter {
-        code: four(a, b, c, d),
-        width: 4,
+        },
+        0xE0..=0xEF => {
+            let two = joined(u32::from(first % 16), text[cursor + 1]);
+            Letter {
+                code: joined(two, text[cursor + 2]),
+                width: 3,
+            }
+        }
+        _ => {
+            let two = joined(u32::from(first % 8), text[cursor + 1]);
+            let three = joined(two, text[cursor + 2]);
+            Letter {
+                code: joined(three, text[cursor + 3]),
+                width: 4,
+            }
+        }
     }
 }
 
-// A letter's first byte: the mark of its length, and its highest bits.
-fn lead(mark: u32, high: u32) -> u8
-    requires { mark + high < 256 }
-    ensures { result ≡ mark + high }
+// Writes the bytes into out from the byte at on. The answer is the place behind them.
+pub fn put_bytes(out: &mut [u8], at: usize, bytes: &[u8]) -> usize
+    requires { at + length bytes.now ≤ length out.old }
+    ensures { Wrote out.old at bytes.now out.new result }
 {
-    (mark + high) as u8
+    let end = at + bytes.len();
+    out[at..end].copy_from_slice(bytes);
+    end
 }
 
-// A byte behind a letter's first, with six bits of it.
+// A byte behind a letter's first, with the last six bits of x.
 fn trail(x: u32) -> u8
     ensures { result ≡ 0x80 + x % 64 }
 {
     (0x80 + x % 64) as u8
 }
 
-// The first letters that are written in two, three and four bytes.
-const TWO_BYTES_FROM: u32 = 0x80;
-
-const THREE_BYTES_FROM: u32 = 0x800;
-
-const FOUR_BYTES_FROM: u32 = 0x10000;
-
 // Writes the letter c into out from the byte at on. The answer is the place behind it.
+#[tactic(auto, unfolding(crate::specs::Utf8::encode1))]
 pub fn put_letter(out: &mut [u8], at: usize, c: u32) -> usize
     requires { (at + length (encode1 c) ≤ length out.old) × (c < 0x110000) }
     ensures { Wrote out.old at (encode1 c) out.new result }
 {
-    if c < TWO_BYTES_FROM {
-        out[at] = lead(0, c);
-        return at + 1;
+    match c {
+        0x00..=0x7F => put_bytes(out, at, &[c as u8]),
+        0x80..=0x7FF => put_bytes(out, at, &[(0xC0 + c / 64) as u8, trail(c)]),
+        0x800..=0xFFFF => put_bytes(out, at, &[(0xE0 + c / 4096) as u8, trail(c / 64), trail(c)]),
+        _ => put_bytes(
+            out,
+            at,
+            &[
+                (0xF0 + c / 262144) as u8,
+                trail(c / 4096),
+                trail(c / 64),
+                trail(c),
+            ],
+        ),
     }
-    if c < THREE_BYTES_FROM {
-        out[at] = lead(0xC0, c / 64);
-        out[at + 1] = trail(c);
-        return at + 2;
-    }
-    if c < FOUR_BYTES_FROM {
-        out[at] = lead(0xE0, c / 4096);
-        out[at + 1] = trail(c / 64);
-        out[at + 2] = trail(c);
-        return at + 3;
-    }
-    out[at] = lead(0xF0, c / 262144);
-    out[at + 1] = trail(c / 4096);
-    out[at + 2] = trail(c / 64);
-    out[at + 3] = trail(c);
-    at + 4
 }

@@ -1,24 +1,29 @@
--- `search_mark` meets its contract: each turn passes a letter that begins with EF, and the search those that do not. Assumes nothing.
+-- `search_mark` meets its contract: each turn passes a letter that is no mark. Assumes nothing.
 use native.Mathlib.Omega.{arith}
-use Rattle.floating_marks.proofs.Finding.{start, letter, inside, there, turn, none}
+use Rattle.floating_marks.proofs.Finding.{start, letter, there, moves, turn, none}
 use Rattle.floating_marks.proofs.search_mark.Goals as goal
 
-pub loop-cursor-init : goal.loop-cursor-init
-loop-cursor-init c = start c.args.word.now c.requires c.next_first-cursor.result c.next_first-cursor.ensures
+pub loop-place-init : goal.loop-place-init
+loop-place-init c = start c.args.word.now c.requires
 
-pub mark_at-requires : goal.mark_at-requires
-mark_at-requires c = letter c.loop-cursor.invariant (omega arith)
+pub read_letter-letter-requires : goal.read_letter-letter-requires
+read_letter-letter-requires c = letter c.loop-place.invariant (omega arith)
 
-pub returns-then-mark_at : goal.returns-then-mark_at
-returns-then-mark_at c = there c.loop-cursor.invariant (omega arith) c.mark_at.result c.mark_at.ensures c.if-mark_at.true
+pub returns-then-is_mark : goal.returns-then-is_mark
+returns-then-is_mark c =
+    let l = c.read_letter-letter in
+    there c.loop-place.invariant (omega arith) l.result l.ensures c.is_mark.result c.is_mark.ensures c.if-is_mark.true
 
-pub next_first-cursor-requires-in-loop-cursor : goal.next_first-cursor-requires-in-loop-cursor
-next_first-cursor-requires-in-loop-cursor c = inside c.loop-cursor.invariant (omega arith)
+pub overflow_add-place : goal.overflow_add-place
+overflow_add-place c = let l = c.read_letter-letter in omega (arith, moves c.loop-place.invariant (omega arith) l.result l.ensures)
 
-pub loop-cursor-preserved : goal.loop-cursor-preserved
-loop-cursor-preserved c =
-    let next = c.next_first-cursor-in-loop-cursor in
-    turn c.loop-cursor.invariant (omega arith) c.mark_at.result c.mark_at.ensures c.if-mark_at.false next.result next.ensures
+pub loop-place-smaller : goal.loop-place-smaller
+loop-place-smaller c = let l = c.read_letter-letter in omega (arith, moves c.loop-place.invariant (omega arith) l.result l.ensures)
+
+pub loop-place-preserved : goal.loop-place-preserved
+loop-place-preserved c =
+    let l = c.read_letter-letter in
+    turn c.loop-place.invariant (omega arith) l.result l.ensures c.is_mark.result c.is_mark.ensures c.if-is_mark.false
 
 pub returns : goal.returns
-returns c = none c.loop-cursor.invariant c.loop-cursor-test.false
+returns c = none c.loop-place.invariant c.loop-place-test.false

@@ -1,4 +1,4 @@
--- `take_out` meets its contract: each turn passes a mark, or reads another letter and writes it. Assumes nothing.
+-- `take_out` meets its contract: each turn reads a letter, and writes it if it is no mark. Assumes nothing.
 use Prim.Native.Nat.{◌-◌}
 use lib.ListN.{length}
 use Rattle.floating_marks.proofs.Taking.{Inv}

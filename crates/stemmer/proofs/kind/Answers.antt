@@ -1,33 +1,24 @@
 -- `kind` meets its contract: item 1 of an accepted word. Assumes nothing.
-use mathlib.Core.Path.{sym, ◌∙◌}
-use native.Mathlib.Omega.{arith}
-use lib.Seq.{take-length}
-use Rattle.stemmer.specs.declared.Checked.TheVariants.{Overlong, Malformed, Accepted}
+use mathlib.Core.Path.{sym, ap, ◌∙◌}
+use Rattle.std.specs.Prelude.{Ok, Err}
+use Rattle.std.proofs.lemmas.Result.{err_from_is_err_and}
 use Rattle.stemmer.specs.Entries.{letters}
 use Rattle.stemmer.proofs.Answers.{scalars, spelling, kind-after}
 use Rattle.stemmer.proofs.kind.Goals as goal
 
-pub kind_of-k-requires : goal.kind_of-k-requires
-kind_of-k-requires c =
+pub returns-in_err-check_word : goal.returns-in_err-check_word
+returns-in_err-check_word c =
+    let p = err_from_is_err_and c.from_residual.result c.from_residual.ensures.1 in
+    p.1 ∙ ap Err p.2 ∙ kind-after c.args.word.now (Err c.in_err-check_word.field-0.0) (sym c.in_err-check_word.ensures)
+
+pub kind_of-requires : goal.kind_of-requires
+kind_of-requires c =
     let w = c.args.word.now in
-    let e = sym c.in-Accepted.ensures in
-    record {
-      word = letters w;
-      encodes = (scalars w e, take-length w ∙ spelling w e);
-      within = omega arith;
-    }
+    let e = sym c.in_ok-check_word.ensures in
+    record { word = letters w; encodes = (scalars w e, spelling w e) }
 
-pub returns-in-Overlong : goal.returns-in-Overlong
-returns-in-Overlong c =
-    kind-after c.args.word.now Overlong (sym c.in-Overlong.ensures)
-
-pub returns-in-Malformed : goal.returns-in-Malformed
-returns-in-Malformed c =
-    kind-after c.args.word.now Malformed (sym c.in-Malformed.ensures)
-
-pub returns-in-Accepted : goal.returns-in-Accepted
-returns-in-Accepted c =
+pub returns : goal.returns
+returns c =
     let w = c.args.word.now in
-    let e = sym c.in-Accepted.ensures in
-    let k = (c.kind_of-k.ensures (letters w) (scalars w e) (take-length w ∙ spelling w e)).0 in
-    (λ i. record { code = 0; kind = k i }) ∙ kind-after w Accepted e
+    let e = sym c.in_ok-check_word.ensures in
+    ap Ok (c.kind_of.ensures (letters w) (scalars w e, spelling w e)).0 ∙ kind-after w (Ok tt) e

@@ -1,22 +1,10 @@
--- `normalise` meets its contract: item 2 of an accepted word. Assumes nothing.
-use mathlib.Core.Path.{sym}
+-- `normalise` meets its contract: the work is item 2. Assumes nothing.
+use Rattle.std.proofs.Common.{rules}
 use Rattle.definition.specs.Normal.{normalise}
-use Rattle.stemmer.proofs.Answers.{refused_overlong, refused_malformed, delivered}
 use Rattle.stemmer.proofs.normalise.Goals as goal
 
-pub returns-in-Overlong : goal.returns-in-Overlong
-returns-in-Overlong c =
-    let r = refused_overlong normalise c.args.word.now c.args.out.now (sym c.in-Overlong.ensures) in
-    record { value = r.0; out_after = r.1.0; out_len_bound = r.1.1 }
+pub answered-requires : goal.answered-requires
+answered-requires c = (normalise, search rules)
 
-pub returns-in-Malformed : goal.returns-in-Malformed
-returns-in-Malformed c =
-    let r = refused_malformed normalise c.args.word.now c.args.out.now (sym c.in-Malformed.ensures) in
-    record { value = r.0; out_after = r.1.0; out_len_bound = r.1.1 }
-
-pub returns-in-Accepted : goal.returns-in-Accepted
-returns-in-Accepted c =
-    let d = c.deliver in
-    let e = c.normalised-e in
-    let r = delivered normalise c.args.word.now c.args.out.now (sym c.in-Accepted.ensures) e.result e.ensures d.result d.new.out d.ensures.value d.ensures.out_after in
-    record { value = r.0; out_after = r.1.0; out_len_bound = r.1.1 }
+pub returns-clause-out_len_bound : goal.returns-clause-out_len_bound
+returns-clause-out_len_bound c = c.answered.ensures.out_len_bound normalise (search rules)

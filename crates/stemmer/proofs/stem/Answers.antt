@@ -1,32 +1,48 @@
 -- `stem` meets its contract: the stem of an accepted word and the number of its endings, and demand 3 of it. Assumes nothing.
-use mathlib.Core.Path.{sym, subst}
-use native.Mathlib.Omega.{arith}
+use mathlib.Core.Path.{refl, sym, ap, ◌∙◌}
+use Rattle.std.specs.Prelude.{Ok, Err}
+use Rattle.std.proofs.lemmas.Result.{err_from_is_err_and}
 use Rattle.definition.specs.Stem.{stem}
-use Rattle.stemmer.specs.declared.StemAnswer.{StemAnswer}
-use Rattle.stemmer.proofs.Answers.{refused_overlong, refused_malformed, delivered, StemPromised, with_endings_lem}
+use Rattle.stemmer.specs.declared.outcome.Refusal.TheVariants.{Bad}
+use Rattle.stemmer.specs.Entries.{Answer, letters, with_endings}
+use Rattle.stemmer.proofs.Answers.{refused, delivered, number, numbered}
 use Rattle.stemmer.proofs.stem.Goals as goal
 
-pub returns-in-Overlong : goal.returns-in-Overlong
-returns-in-Overlong c =
+pub returns-in_err-entered : goal.returns-in_err-entered
+returns-in_err-entered c =
     let a = c.args in
-    let r = subst (λ (s : StemAnswer). StemPromised a.word.now a.out.now s a.out.now) (sym c.answered.ensures)
-    (with_endings_lem a.word.now a.out.now (refused_overlong stem a.word.now a.out.now (sym c.in-Overlong.ensures)) 0 (λ z. absurd (omega arith))) in
-    record { value = r.0; out_after = r.1.0; demand3after = r.1.1.0; few_endings_of = r.1.1.1.0; out_len_bound = r.1.1.1.1 }
+    let e = c.in_err-entered in
+    let r = Err (Bad e.field-0.0) in
+    let p = err_from_is_err_and c.from_residual.result c.from_residual.ensures.1 in
+    numbered a.word.now a.out.now r a.out.now (refused stem a.word.now a.out.now e.field-0.0 e.ensures.refused r refl) c.from_residual.result (p.1 ∙ ap Err p.2)
 
-pub returns-in-Malformed : goal.returns-in-Malformed
-returns-in-Malformed c =
-    let a = c.args in
-    let r = subst (λ (s : StemAnswer). StemPromised a.word.now a.out.now s a.out.now) (sym c.answered-in-Malformed.ensures)
-    (with_endings_lem a.word.now a.out.now (refused_malformed stem a.word.now a.out.now (sym c.in-Malformed.ensures)) 0 (λ z. absurd (omega arith))) in
-    record { value = r.0; out_after = r.1.0; demand3after = r.1.1.0; few_endings_of = r.1.1.1.0; out_len_bound = r.1.1.1.1 }
+pub text-requires : goal.text-requires
+text-requires c =
+    let w = letters c.args.word.now in
+    (c.stem-found.ensures w c.in_ok-entered.ensures.accepted.1).0.within
 
-pub returns-in-Accepted : goal.returns-in-Accepted
-returns-in-Accepted c =
+pub returns-in_err-count : goal.returns-in_err-count
+returns-in_err-count c =
     let a = c.args in
-    let d = c.deliver-a in
-    let e = c.stemmed-s in
-    let r = subst (λ (s : StemAnswer). StemPromised a.word.now a.out.now s d.new.out) (sym c.with_endings.ensures)
-    (with_endings_lem a.word.now a.out.now
-    (delivered stem a.word.now a.out.now (sym c.in-Accepted.ensures) e.result.env e.ensures.0 d.result d.new.out d.ensures.value d.ensures.out_after)
-    e.result.endings (λ z. e.ensures.1)) in
-    record { value = r.0; out_after = r.1.0; demand3after = r.1.1.0; few_endings_of = r.1.1.1.0; out_len_bound = r.1.1.1.1 }
+    let w = a.word.now in
+    let e = c.in_ok-entered.ensures.accepted in
+    let s = c.stem-found.ensures (letters w) e.1 in
+    let t = c.text in
+    let d = c.deliver in
+    let r = c.from_residual-in_err-count in
+    let p = err_from_is_err_and r.result r.ensures.1 in
+    numbered w a.out.now d.result d.new.out (delivered stem w a.out.now e.0 c.stem-found.result.env s.0 t.result.now t.ensures d.result d.new.out d.ensures.value d.ensures.out_after)
+    r.result (p.1 ∙ ap Err p.2 ∙ sym (ap (λ (x : Answer). with_endings x (number w)) c.in_err-count.was))
+
+pub returns : goal.returns
+returns c =
+    let a = c.args in
+    let w = a.word.now in
+    let e = c.in_ok-entered.ensures.accepted in
+    let s = c.stem-found.ensures (letters w) e.1 in
+    let t = c.text in
+    let d = c.deliver in
+    let n = c.in_ok-count.count in
+    numbered w a.out.now d.result d.new.out (delivered stem w a.out.now e.0 c.stem-found.result.env s.0 t.result.now t.ensures d.result d.new.out d.ensures.value d.ensures.out_after)
+    (Ok (record { count = n; endings = c.stem-found.result.endings }))
+    ((λ i. Ok (record { count = n; endings = s.1 i })) ∙ sym (ap (λ (x : Answer). with_endings x (number w)) c.in_ok-count.was))

@@ -11,11 +11,11 @@ use Rattle.stemmer.proofs.stem_part.Goals as goal
 pub slice_bounds-result-end : goal.slice_bounds-result-end
 slice_bounds-result-end c =
     let a = c.args in
-    let s = c.stem_front-n in
+    let s = c.stem_front-count in
     let h : s.result ≤ length s.new.out = omega (arith, count_within stem a.word.now a.out.now, s.ensures.value, s.auto) in
     sym (length-take-le s.result s.new.out h)
 
 pub returns-clause-result_value : goal.returns-clause-result_value
 returns-clause-result_value c =
     let a = c.args in
-    let s = c.stem_front-n in rw (s.ensures.value, s.ensures.out_after) (part_is stem a.word.now a.out.now)
+    let s = c.stem_front-count in rw (s.ensures.value, s.ensures.out_after) (part_is stem a.word.now a.out.now)

@@ -1,20 +1,16 @@
--- `well_formed` meets its contract: the invariant is that the word is well formed just where what is left of it is, from the state kept. Assumes nothing.
-use Rattle.utf8.proofs.Read.{reads_start, reads_next, reads_end}
-use mathlib.Core.Path.{◌∙◌}
-use native.Mathlib.Omega.{arith}
+-- `well_formed` meets its contract: the word is well formed just where what is left of it is, from the state kept. Assumes nothing.
+use borrow.Author.Rules.{rules}
+use Rattle.utf8.proofs.Read.{reads_start, reads_next, reads_none, reads_end}
 use Rattle.utf8.proofs.well_formed.Goals as goal
 
-pub loop-i-init : goal.loop-i-init
-loop-i-init c = (omega arith, reads_start c.args.word.now)
+pub loop-byte-init : goal.loop-byte-init
+loop-byte-init c = reads_start c.args.word.now
 
-pub loop-i-preserved : goal.loop-i-preserved
-loop-i-preserved c =
-    let w = c.args.word.now in
-    let l = c.loop-i in
-    (omega arith, reads_next w l.s c.next_byte-s.result l.i l.invariant.1 (omega arith) c.next_byte-s.ensures)
+pub returns-in_default : goal.returns-in_default
+returns-in_default c = reads_none c.loop-byte.invariant c.loop-byte-test.true c.next.result c.next.ensures (search rules)
+
+pub loop-byte-preserved : goal.loop-byte-preserved
+loop-byte-preserved c = reads_next c.loop-byte.invariant c.loop-byte-test.true c.next.result c.in-Some.next c.next.ensures c.in-Some.is
 
 pub returns : goal.returns
-returns c =
-    let w = c.args.word.now in
-    let l = c.loop-i in
-    c.is_whole.ensures ∙ reads_end w l.s l.i l.invariant.1 (omega arith)
+returns c = reads_end c.loop-byte.invariant c.eq.result c.loop-byte-test.false (search rules)

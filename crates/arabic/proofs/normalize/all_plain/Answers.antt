@@ -4,7 +4,7 @@ use Rattle.arabic.proofs.Passing.{start, letter, stopped, turn, done}
 use Rattle.arabic.proofs.normalize.all_plain.Goals as goal
 
 pub loop-cursor-init : goal.loop-cursor-init
-loop-cursor-init c = start c.args.text.now c.args.limit c.requires
+loop-cursor-init c = start c.args.text.now c.requires
 
 pub plain_at-plain-requires : goal.plain_at-plain-requires
 plain_at-plain-requires c = letter c.loop-cursor.invariant (omega arith)

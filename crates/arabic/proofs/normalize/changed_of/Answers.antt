@@ -1,9 +1,10 @@
--- `normalize::changed_of` meets its contract: a letter that is in no row, a last letter, and any other. Assumes nothing.
+-- `normalize::changed_of` meets its contract: a letter that is in no row stays. Assumes nothing.
+use Rattle.std.proofs.Common.{rules}
 use Rattle.arabic.proofs.Changes.{stays-below, stays_above}
 use Rattle.arabic.proofs.normalize.changed_of.Goals as goal
 
-pub returns-then-c-lt1570 : goal.returns-then-c-lt1570
-returns-then-c-lt1570 c = let a = c.args in stays-below a.ending a.c c.if-c-lt1570.true
+pub returns-in_default : goal.returns-in_default
+returns-in_default c = search (rules, stays-below, stays_above)
 
-pub returns-then-c-gt1574 : goal.returns-then-c-gt1574
-returns-then-c-gt1574 c = let a = c.args in stays_above a.ending a.c c.if-c-gt1574.true
+pub returns-in_default-2 : goal.returns-in_default-2
+returns-in_default-2 c = search (rules, stays-below, stays_above)

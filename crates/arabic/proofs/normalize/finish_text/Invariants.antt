@@ -4,7 +4,7 @@ use Rattle.arabic.proofs.Finishing.{Inv}
 use Rattle.arabic.proofs.normalize.finish_text.Given as goal
 
 abbrev pub invariant-loop : goal.invariant-loop
-invariant-loop l = Inv l.initial.text l.limit l.i_word_len l.text l.cursor l.counter
+invariant-loop l = Inv l.initial.text l.i_word_len l.text l.cursor l.counter
 
 abbrev pub decreases-loop : goal.decreases-loop
 decreases-loop l = l.i_word_len - l.counter

@@ -3,10 +3,9 @@ use mathlib.Core.Path.{sym, ◌∙◌}
 use Rattle.arabic.proofs.Standing.{encoded, passed, normalised}
 use Rattle.arabic.proofs.normalize.r_Normalize_pre.Goals as goal
 
-pub returns-then-plain : goal.returns-then-plain
-returns-then-plain c =
-    λ w s. passed w s (sym (c.all_plain-plain.ensures w (encoded s)) ∙ c.if-plain.true)
+pub returns-then-all_plain : goal.returns-then-all_plain
+returns-then-all_plain c = λ w s. passed w s (sym (c.all_plain.ensures w (encoded s c.text.result.now c.text.ensures)) ∙ c.if-all_plain.true)
 
 pub returns : goal.returns
 returns c =
-    λ w s. normalised w s c.normalize_text-end.new.out c.normalize_text-end.result (c.normalize_text-end.ensures w (encoded s))
+    λ w s. normalised w s c.normalize_text-end.new.out c.normalize_text-end.result (c.normalize_text-end.ensures w (encoded s c.text-2.result.now c.text-2.ensures))

@@ -1,8 +1,15 @@
 -- `noun_nest::by_Step1b` meets its contract. Assumes nothing.
 use mathlib.Core.Path.{subst}
-use Rattle.arabic.specs.Endings.{Gives}
-use Rattle.arabic.proofs.Nest.{by_step1b_is}
+use Rattle.std.proofs.Common.{rules}
+use Rattle.definition.specs.Endings.{cut, noun_step1b}
+use Rattle.arabic.specs.Endings.{Ends, Gives}
+use Rattle.arabic.specs.Nests.{after_step1b}
+use Rattle.arabic.proofs.Nest.{and_next, by_step1b_is}
 use Rattle.arabic.proofs.noun_nest.by_Step1b.Goals as goal
 
 pub returns : goal.returns
-returns c = λ v st. subst (Gives c.then_after_Step1b.result) (by_step1b_is v) (c.then_after_Step1b.ensures _ (c.r_Suffix_Noun_Step1b-a.ensures v st).0)
+returns c = λ v st.
+    let a = c.r_Suffix_Noun_Step1b in
+    let r = c.and_then in
+    subst (Gives r.result) (by_step1b_is v)
+    (and_next Ends a.result.outcome r.result after_step1b (search rules) (cut noun_step1b v) (a.ensures v st).0)

@@ -1,13 +1,16 @@
 -- `noun_nest::noun` meets its contract. Assumes nothing.
-use mathlib.Core.Path.{subst}
-use Rattle.definition.specs.Endings.{cut, noun_step3}
+use mathlib.Core.Path.{sym, ap, ◌∙◌, subst}
+use Rattle.definition.specs.Tries.{Try, and_then}
+use Rattle.definition.specs.Endings.{Cutting, cut, noun_step3}
 use Rattle.arabic.specs.Endings.{Gives}
 use Rattle.arabic.specs.Kinds.{kind_of}
-use Rattle.arabic.proofs.Nest.{then_yes, noun_is}
+use Rattle.arabic.proofs.Nest.{noun_is}
 use Rattle.arabic.proofs.noun_nest.noun.Goals as goal
 
+pub r_Suffix_Noun_Step3-requires : goal.r_Suffix_Noun_Step3-requires
+r_Suffix_Noun_Step3-requires c = let w = c.first_cut-cut.ensures c.requires.0 c.requires.1 in (w.0, w.1.1)
+
 pub returns : goal.returns
-returns c =
-    let r = c.r_Suffix_Noun_Step3-s in
-    λ v st. subst (Gives r.result.tried) (noun_is (kind_of c.args.b_is_defined) v)
-    (then_yes c.first_cut-t.result r.result.tried (cut noun_step3) c.first_cut-t.ensures.0 _ (c.first_cut-t.ensures.1 v st) (λ u e s. (r.ensures u s).0))
+returns c = λ v st.
+    let w = c.first_cut-cut.ensures v st in
+    subst (Gives c.r_Suffix_Noun_Step3.result.outcome) (ap (λ (y : Try Cutting). and_then y (cut noun_step3)) (sym w.1.0) ∙ noun_is (kind_of c.args.b_is_defined) v) (c.r_Suffix_Noun_Step3.ensures w.0 w.1.1).0

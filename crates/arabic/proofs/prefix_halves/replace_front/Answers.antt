@@ -1,47 +1,41 @@
 -- `prefix_halves::replace_front` meets its contract. Assumes nothing.
-use mathlib.Core.Path.{◌≡◌, sym, ap, ◌∙◌, subst}
-use mathlib.Core.List.{[]}
-use Prim.Native.Nat.{ℕ, ◌+◌, ◌-◌, ◌≤◌}
+use mathlib.Core.Path.{refl, sym, ◌∙◌}
+use mathlib.Core.List.{List, []}
+use Prim.Native.Nat.{ℕ, ◌-◌}
+use lib.ListN.{get_or}
+use Rattle.std.specs.Borrow.{Bor}
 use native.Mathlib.Omega.{arith}
-use lib.ListN.{length, take, get_or}
-use Rattle.arabic.proofs.Fronted.{row_is, not_replaced, in_lens, in_news, in_new, can_slice, is_replaced}
-use Rattle.snowball.specs.Stands.{work_size}
+use Rattle.arabic.proofs.Fronted.{put_is, row_is, not_replaced, some_class, in_puts, can_slice, is_replaced}
 use Rattle.arabic.proofs.prefix_halves.replace_front.Goals as goal
 
-none-less : (n : ℕ) → n ≡ n - 0
-none-less n = omega arith
-
-pub returns-then-class-eq0 : goal.returns-then-class-eq0
-returns-then-class-eq0 c =
+pub returns-in_default : goal.returns-in_default
+returns-in_default c =
     let a = c.args in
-    λ s w st tk ps nb ch. (not_replaced s w a.env st a.f tk nb c.if-class-eq0.true, row_is s w a.env st a.f tk nb)
+    λ s w st tk ps nb ch. (not_replaced s w a.env st (sym c.in_default.is ∙ tk.taken) nb, row_is s w a.env st a.found tk nb)
 
-pub bounds-lens-k : goal.bounds-lens-k
-bounds-lens-k c =
+pub overflow_sub-taken : goal.overflow_sub-taken
+overflow_sub-taken c =
     let p = c.requires in
-    in_lens p.0 p.1.0 c.args.env p.1.1.0 c.args.f p.1.1.1.0 c.if-class-eq0.false c.args.news.now c.args.lens.now p.1.1.1.1 c.wide-k.result c.wide-k.ensures
+    some_class p.0 p.1.0 c.args.env p.1.1.0 c.in-Some.taken (sym c.in-Some.is ∙ p.1.1.1.0.taken)
 
-pub bounds-news-k : goal.bounds-news-k
-bounds-news-k c =
+pub bounds-puts-from : goal.bounds-puts-from
+bounds-puts-from c =
     let p = c.requires in
-    in_news p.0 p.1.0 c.args.env p.1.1.0 c.args.f p.1.1.1.0 c.if-class-eq0.false c.args.news.now c.args.lens.now p.1.1.1.1 c.wide-k.result c.wide-k.ensures
+    omega (arith, in_puts p.0 p.1.0 c.args.env p.1.1.0 c.in-Some.taken (sym c.in-Some.is ∙ p.1.1.1.0.taken) c.args.puts.now p.1.1.1.1, c.from.ensures)
 
-pub slice_bounds-slice_from-end : goal.slice_bounds-slice_from-end
-slice_bounds-slice_from-end c =
+pub slice_from-requires : goal.slice_from-requires
+slice_from-requires c =
     let p = c.requires in
-    in_new p.0 p.1.0 c.args.env p.1.1.0 c.args.f p.1.1.1.0 c.if-class-eq0.false c.args.news.now c.args.lens.now p.1.1.1.1 c.wide-k.result c.wide-k.ensures c.wide-n.result c.wide-n.ensures
-
-pub slice_from-d-requires : goal.slice_from-d-requires
-slice_from-d-requires c =
-    let p = c.requires in
-    let h = can_slice p.0 p.1.0 c.args.env p.1.1.0 c.args.f p.1.1.1.0 c.if-class-eq0.false c.args.news.now c.args.lens.now p.1.1.1.1 c.wide-k.result c.wide-k.ensures c.wide-n.result c.wide-n.ensures in
-    (h.0, h.1.0, h.1.1.0, subst (λ (n : ℕ). c.args.env.limit - (c.args.f.cursor - c.args.env.cursor) + length (take n (get_or c.args.news.now c.wide-k.result [])) ≤ work_size) (none-less c.wide-n.result) h.1.1.1)
+    let none : Bor (List ℕ) = record { ref_ptr = (0, 0); now = [] } in
+    let h = can_slice p.0 p.1.0 c.args.env p.1.1.0 c.in-Some.taken (sym c.in-Some.is ∙ p.1.1.1.0.taken) c.args.puts.now p.1.1.1.1 (get_or c.args.puts.now c.from.result none).now
+    (put_is c.args.puts.now c.from.result (c.in-Some.taken.class - 1) none refl c.from.ensures) in
+    (h.0, h.1.0, h.1.1.0, h.1.1.1)
 
 pub returns : goal.returns
 returns c =
     let a = c.args in
-    λ s w st tk ps nb ch.
-    let g = is_replaced s w a.env st a.f tk c.if-class-eq0.false a.news.now a.lens.now ps c.wide-k.result c.wide-k.ensures c.wide-n.result c.wide-n.ensures nb ch
-    c.slice_from-d.result
-    (λ cs sc e. c.slice_from-d.ensures.1 cs sc (ap (λ (n : ℕ). take n (get_or a.news.now c.wide-k.result [])) (sym (none-less c.wide-n.result)) ∙ e)) in
-    (g, row_is s w a.env st a.f tk nb)
+    λ s w st tk ps nb ch. (
+      is_replaced s w a.env st c.in-Some.taken (sym c.in-Some.is ∙ tk.taken) a.puts.now ps _ (put_is a.puts.now c.from.result (c.in-Some.taken.class - 1) _ refl c.from.ensures) nb ch c.slice_from.result
+          c.slice_from.ensures.1,
+      row_is s w a.env st a.found tk nb,
+    )

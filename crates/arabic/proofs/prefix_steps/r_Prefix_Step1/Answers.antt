@@ -1,32 +1,15 @@
 -- `prefix_steps::r_Prefix_Step1` meets its contract: its table is A_4, with its guards and what stands for its rows. Assumes nothing.
 use mathlib.Core.Path.{refl}
 use Rattle.definition.specs.Tables.{A_4}
-use Rattle.definition.specs.Fronts.{prefix_step1, prefix, replacements, not_at, text, change, started}
+use Rattle.definition.specs.Fronts.{prefix_step1, prefix, replacements, not_at, change, started}
 use Rattle.utf8.specs.Utf8.{encode1, encode}
-use Rattle.arabic.proofs.Standing.{spelt}
-use Rattle.arabic.proofs.Fronted.{front_fits, rest-scalars, rest-bytes, headed_in_place}
+use Rattle.arabic.proofs.Fronted.{headed_in_place}
 use Rattle.arabic.proofs.prefix_steps.r_Prefix_Step1.Goals as goal
 
-pub front_row-f-requires-clause-spelt : goal.front_row-f-requires-clause-spelt
-front_row-f-requires-clause-spelt c =
-    let x = c.args.env in
-    let w = started c.requires.0 in
-    let st = c.requires.1 in (spelt st, (front_fits x w st).0, (w.rest, (rest-scalars x w st, rest-bytes x w st)))
-
-pub replace_front-requires : goal.replace_front-requires
+pub prefix_step-requires : goal.prefix_step-requires
 unfolding prefix replacements A_4 encode encode1
-replace_front-requires c =
-    let x = c.args.env in
-    let w = started c.requires.0 in
-    let st = c.requires.1 in
-    (prefix_step1, (w, (st, (c.front_row-f.ensures prefix_step1 refl refl refl (text w) w.rest (rest-scalars x w st) st.bytes (rest-bytes x w st), (refl, refl)))))
+prefix_step-requires c = (prefix_step1, (started c.requires.0, (c.requires.1, (record { table = refl; letters = refl; guards = refl }, refl))))
 
 pub returns : goal.returns
 unfolding started prefix replacements not_at change A_4 encode encode1
-returns c =
-    let x = c.args.env in
-    λ w st.
-    c.replace_front.ensures prefix_step1 (started w) st
-    (c.front_row-f.ensures prefix_step1 refl refl refl (text (started w)) (started w).rest (rest-scalars x (started w) st) st.bytes (rest-bytes x (started w) st)) (refl, refl)
-    refl
-    (headed_in_place w)
+returns c = λ w st. c.prefix_step.ensures prefix_step1 (started w) st (record { table = refl; letters = refl; guards = refl }) refl refl (headed_in_place w)

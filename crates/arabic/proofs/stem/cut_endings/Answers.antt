@@ -4,5 +4,5 @@ use Rattle.definition.specs.Endings.{uncut}
 use Rattle.arabic.proofs.Items.{to_end, none_cut}
 use Rattle.arabic.proofs.stem.cut_endings.Goals as goal
 
-pub suffixes-c-requires : goal.suffixes-c-requires
-suffixes-c-requires c = let p = c.requires.0 in ((uncut p.0, none_cut _ p.0 (to_end c.args.env p.0 p.1) refl), c.requires.1)
+pub suffixes-cut-requires : goal.suffixes-cut-requires
+suffixes-cut-requires c = let p = c.requires.0 in ((uncut p.0, none_cut _ p.0 (to_end c.args.env p.0 p.1) refl), c.requires.1)

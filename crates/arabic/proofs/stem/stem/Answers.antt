@@ -9,6 +9,7 @@ use Rattle.snowball.specs.Chars.{started}
 use Rattle.snowball.specs.Stands.{Stands}
 use Rattle.arabic.specs.declared.context.Context.{Context}
 use Rattle.arabic.specs.Kinds.{flags, kind_by_verb, kind_of}
+use Rattle.arabic.proofs.Standing.{encoded}
 use Rattle.arabic.proofs.Checking.{kind-back}
 use Rattle.arabic.proofs.stem.stem.Goals as goal
 
@@ -19,9 +20,9 @@ one-kind DEFINED = refl
 pub returns : goal.returns
 unfolding stem stem_of fronting cuts
 returns c =
-    let k = c.checked-c in
+    let k = c.checked in
     λ w st.
-    let e : kind_of k.result.context.b_is_defined ≡ kind w = ap (λ (x : Context). kind_of x.b_is_defined) (k.ensures w st.scalars st.bytes).0 ∙ kind-back (kind w) in
+    let e : kind_of k.result.outcome.b_is_defined ≡ kind w = ap (λ (x : Context). kind_of x.b_is_defined) (k.ensures w (encoded st c.text.result.now c.text.ensures)).0 ∙ kind-back (kind w) in
     let s = c.stem_of.ensures w st in (
       subst (λ (x : Kind). Stands c.stem_of.result.env (started (stem_of x (normalise w)))) e s.0,
       s.1 ∙ ap (λ (x : Kind). length (cutting x (normalise w)).cuts) e ∙ sym (chain_length w),

@@ -20,9 +20,9 @@ returns c =
     let e = c.requires.2 in
     let d = kind_of c.args.context.b_is_defined in
     λ w st.
-    let cut = c.cut_endings-c.ensures (normalise w) (c.r_Normalize_pre-n.ensures w st) in (
-      subst (λ (x : Word). Stands c.finish_letters-f.result (started (finish (text (fronts d x))))) (sym (endings_leave_lem d (normalise w)))
-          (subst (λ (k : Kind). Stands c.finish_letters-f.result (started (finish (text (fronts k (maqsura_if_failed (endings d (normalise w)) (after (endings d (normalise w))).text))))))
-          e (c.finish_letters-f.ensures _ (c.change_front-p.ensures _ cut.0))),
+    let cut = c.cut_endings-cut.ensures (normalise w) (c.r_Normalize_pre-normalised.ensures w st) in (
+      subst (λ (x : Word). Stands c.finish_letters.result (started (finish (text (fronts d x))))) (sym (endings_leave_lem d (normalise w)))
+          (subst (λ (k : Kind). Stands c.finish_letters.result (started (finish (text (fronts k (maqsura_if_failed (endings d (normalise w)) (after (endings d (normalise w))).text))))))
+          e (c.finish_letters.ensures _ (c.change_front-changed.ensures _ cut.0))),
       cut.1,
     )

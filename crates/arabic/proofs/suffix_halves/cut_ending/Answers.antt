@@ -1,25 +1,12 @@
 -- `suffix_halves::cut_ending` meets its contract. Assumes nothing.
-use mathlib.Core.Path.{refl}
-use Rattle.arabic.proofs.Ending.{cuts}
+use mathlib.Core.Path.{refl, sym, ◌∙◌}
+use Rattle.arabic.proofs.Ending.{cuts, keeps}
 use Rattle.arabic.proofs.suffix_halves.cut_ending.Goals as goal
 
--- there is an ending
-
 -- there is none
-pub returns-then-found : goal.returns-then-found
-returns-then-found c =
-    let a = c.args in
-    λ s v st tk. (
-      cuts s v a.env st a.f.place tk.place _ (λ u h. h) refl
-          (λ e. absurd (c.if-found.true e)) (λ n. refl),
-      tk.row,
-    )
+pub returns-in_default : goal.returns-in_default
+returns-in_default c = λ s v st tk. (keeps s v c.args.env st (sym c.in_default.is ∙ tk.place), tk.row)
 
-pub returns-else-found : goal.returns-else-found
-returns-else-found c =
-    let a = c.args in
-    λ s v st tk. (
-      cuts s v a.env st a.f.place tk.place _ (λ u h. h) refl (λ e. refl)
-          (λ n. absurd (n c.if-found.false)),
-      tk.row,
-    )
+-- there is an ending
+pub returns : goal.returns
+returns c = λ s v st tk. (cuts s v c.args.env st _ (sym c.in-Some.is ∙ tk.place) _ (λ u h. h) refl refl, tk.row)

@@ -5,22 +5,24 @@ use Rattle.definition.specs.Letters.{yeh}
 use Rattle.definition.specs.Tables.{A_21}
 use Rattle.utf8.specs.Utf8.{encode1, encode}
 use Rattle.snowball.proofs.Answers.{low-scalars}
-use Rattle.arabic.proofs.Guarded.{from_start}
+use Rattle.arabic.proofs.Guarded.{front}
 use Rattle.arabic.proofs.LastLetter.{not_last, is_last}
 use Rattle.arabic.proofs.suffix_steps.r_Suffix_All_alef_maqsura.Goals as goal
 
-pub returns-then-f-eq0 : goal.returns-then-f-eq0
+pub returns-then-found-eq0 : goal.returns-then-found-eq0
 unfolding A_21 encode encode1
-returns-then-f-eq0 c =
+returns-then-found-eq0 c =
     let x = c.args.env in
+    let f = c.find_among_b-found in
     λ w st.
-    let b = c.find_among_b-f.ensures.behind A_21 refl refl w st.scalars (from_start x.current x.limit ∙ st.bytes) in
-    (not_last x w st c.find_among_b-f.result b c.if-f-eq0.true, b.finds.row)
+    let b = f.ensures.behind A_21 refl refl w st.scalars (front x.current x.limit c.text.result.now c.text.ensures ∙ st.bytes) in
+    (not_last x w st f.result b c.if-found-eq0.true, b.finds.row)
 
 pub returns : goal.returns
 unfolding A_21 encode encode1
 returns c =
     let x = c.args.env in
+    let f = c.find_among_b-found in
     λ w st.
-    let b = c.find_among_b-f.ensures.behind A_21 refl refl w st.scalars (from_start x.current x.limit ∙ st.bytes) in
-    (is_last x w st c.find_among_b-f.result b c.if-f-eq0.false c.slice_from-d.result (c.slice_from-d.ensures.1 (yeh ∷ []) (low-scalars (yeh ∷ []) refl) refl), b.finds.row)
+    let b = f.ensures.behind A_21 refl refl w st.scalars (front x.current x.limit c.text.result.now c.text.ensures ∙ st.bytes) in
+    (is_last x w st f.result b c.if-found-eq0.false c.slice_from.result (c.slice_from.ensures.1 (yeh ∷ []) (low-scalars (yeh ∷ []) refl) refl), b.finds.row)

@@ -7,4 +7,4 @@ use Rattle.arabic.proofs.suffix_steps.r_Suffix_Noun_Step2a.Goals as goal
 
 pub returns : goal.returns
 unfolding suffix A_12 encode encode1
-returns c = λ v st. c.cut_ending.ensures noun_step2a v st (c.ending-f.ensures.takes_ending noun_step2a refl refl refl v.text st.stands.scalars st.stands.bytes)
+returns c = c.suffix_step.ensures noun_step2a (record { table = refl; letters = refl; guards = refl })

@@ -7,4 +7,4 @@ use Rattle.arabic.proofs.suffix_steps.r_Suffix_Verb_Step1.Goals as goal
 
 pub returns : goal.returns
 unfolding suffix A_17 encode encode1
-returns c = λ v st. c.cut_ending.ensures verb_step1 v st (c.ending-f.ensures.takes_ending verb_step1 refl refl refl v.text st.stands.scalars st.stands.bytes)
+returns c = c.suffix_step.ensures verb_step1 (record { table = refl; letters = refl; guards = refl })

@@ -1,12 +1,13 @@
 -- `verb_nest::after_Step1` meets its contract. Assumes nothing.
-use mathlib.Core.Path.{subst}
-use Rattle.arabic.specs.Endings.{Gives}
-use Rattle.arabic.proofs.Nest.{after_step1_is}
+use Rattle.std.proofs.Common.{rules}
+use Rattle.definition.specs.Endings.{cut, verb_step2a, verb_step2c}
+use Rattle.arabic.specs.Endings.{Ends}
+use Rattle.arabic.proofs.Nest.{left_is, or_else, after_step1_is}
 use Rattle.arabic.proofs.verb_nest.after_Step1.Goals as goal
 
 pub returns : goal.returns
-returns c = (
-  c.or_nothing.ensures.0,
-  λ v st. subst (Gives c.or_nothing.result) (after_step1_is v)
-      (c.or_nothing.ensures.1 _ (c.or_Step2c-b.ensures _ (c.r_Suffix_Verb_Step2a-a.ensures v st).0)),
-)
+returns c = λ v st.
+    let a = c.r_Suffix_Verb_Step2a in
+    let b = c.or_else-tried in
+    left_is Ends b.result _ _ _ (after_step1_is v) c.left_by.ensures
+    (or_else Ends a.result.outcome b.result (cut verb_step2c) (search rules) (cut verb_step2a v) (a.ensures v st).0)

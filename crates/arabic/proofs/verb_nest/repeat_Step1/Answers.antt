@@ -1,20 +1,20 @@
 -- `verb_nest::repeat_Step1` meets its contract. Assumes nothing.
-use Rattle.arabic.proofs.Nest.{ready}
-use Rattle.definition.specs.Endings.{verb_step1}
+use mathlib.Core.Path.{subst}
+use Rattle.std.specs.Prelude.{Result}
+use Rattle.snowball.specs.declared.env.Env.{Env}
+use Rattle.definition.specs.Endings.{cut, verb_step1}
+use Rattle.arabic.specs.Endings.{Gives}
 use Rattle.arabic.proofs.Repeat.{turn_less, turn_same, turn_end}
 use Rattle.arabic.proofs.verb_nest.repeat_Step1.Goals as goal
 
-pub returns-then-not-found : goal.returns-then-not-found
-returns-then-not-found c =
-    let t = c.r_Suffix_Verb_Step1-t in
-    turn_end verb_step1 c.loop-x.e t.result.tried (λ v st. (t.ensures v st).0) c.if-not-found.true c.args.env c.loop-x.invariant.1
+pub loop-cut-smaller : goal.loop-cut-smaller
+loop-cut-smaller c =
+    turn_less verb_step1 c.loop-cut.e c.in-Ok.cut (λ v st. subst (λ (r : Result Env Env). Gives r (cut verb_step1 v)) c.in-Ok.is (c.r_Suffix_Verb_Step1.ensures v st).0) c.loop-cut.invariant.0
 
-pub loop-x-smaller : goal.loop-x-smaller
-loop-x-smaller c =
-    let t = c.r_Suffix_Verb_Step1-t in
-    turn_less verb_step1 c.loop-x.e t.result.tried (λ v st. (t.ensures v st).0) c.if-not-found.false c.loop-x.invariant.0
+pub loop-cut-preserved : goal.loop-cut-preserved
+loop-cut-preserved c =
+    turn_same verb_step1 c.loop-cut.e c.in-Ok.cut (λ v st. subst (λ (r : Result Env Env). Gives r (cut verb_step1 v)) c.in-Ok.is (c.r_Suffix_Verb_Step1.ensures v st).0) c.loop-cut.invariant.0 c.args.env c.loop-cut.invariant.1
 
-pub loop-x-preserved : goal.loop-x-preserved
-loop-x-preserved c =
-    let t = c.r_Suffix_Verb_Step1-t in
-    (ready t.result.tried (_, (t.ensures c.loop-x.invariant.0.0 c.loop-x.invariant.0.1).0), turn_same verb_step1 c.loop-x.e t.result.tried (λ v st. (t.ensures v st).0) c.if-not-found.false c.args.env c.loop-x.invariant.1)
+pub returns-in-Err : goal.returns-in-Err
+returns-in-Err c =
+    turn_end verb_step1 c.loop-cut.e c.in-Err.uncut (λ v st. subst (λ (r : Result Env Env). Gives r (cut verb_step1 v)) c.in-Err.is (c.r_Suffix_Verb_Step1.ensures v st).0) c.args.env c.loop-cut.invariant.1

@@ -2,4 +2,4 @@
 use Rattle.snowball.proofs.among.+walk.Given as goal
 
 abbrev pub decreases-walk : goal.decreases-walk
-decreases-walk l = l.i
+decreases-walk g l = l.row

@@ -1,4 +1,4 @@
--- `among::halve` meets its contract. The invariant is `Half`; the measure is twice the width of the range, and one more while the first key has not been inspected by itself. Assumes nothing.
+-- `among::halve` meets its contract. Assumes nothing.
 use mathlib.Core.Path.{◌≡◌, sym, ap, ◌∙◌, subst}
 use mathlib.Core.Logic.{◌⊎◌, inl, inr}
 use mathlib.Core.Bool.{Bool, true, false}
@@ -6,137 +6,72 @@ use mathlib.Core.List.{List, []}
 use Prim.Native.Nat.{ℕ, ◌+◌, ◌-◌, ◌/◌, ◌≤◌, ◌<◌}
 use native.Mathlib.Omega.{arith}
 use lib.ListN.{length, get_or, take}
-use lib.Dec.{T}
-use Rattle.snowball.specs.Rows.{keys, before, ordered}
-use Rattle.snowball.specs.Search.{lcp, between}
-use Rattle.snowball.proofs.Read.{keys_length, keys_at}
-use Rattle.snowball.proofs.Table.{Rows, in_rows}
-use Rattle.snowball.proofs.Halving as turn
-use Rattle.snowball.proofs.Halving.{Half, Cut, left, recast, start, row-size, shares, to_high, to_low, again, again_less, again-first, out_later, out-met, out_first}
+use Rattle.snowball.specs.Rows.{keys_by, before}
+use Rattle.snowball.specs.Search.{lcp}
+use Rattle.snowball.specs.declared.tables.Direction.{Ghosts}
+use Rattle.snowball.specs.declared.tables.Among.{Among}
+use Rattle.snowball.proofs.Read.{keys_by_at}
+use Rattle.snowball.proofs.Searched.{rows, count}
+use Rattle.snowball.proofs.Halving.{Half, Cut, start, in_rows, shares, turned, again, again-first, out_later}
 use Rattle.snowball.proofs.among.halve.Goals as goal
 use Rattle.snowball.proofs.among.halve.Goals.{then-r, else-r}
 
--- at the loop's head: the table, the text and the row in the middle, of which n bytes are its key
-module _ (ws : List (List ℕ)) (ns s : List ℕ) (g : T (ordered (keys ws ns) ns)) {i j ci cj : ℕ} {f : Bool} (H : Half (keys ws ns) s i j ci cj f) where
+-- at the loop's head: the table, the text and the row in the middle
+module _ {X : Type 0} {d : Ghosts X} (t : Among X d) {s : List ℕ} {i j ci cj : ℕ} {f : Bool} (H : Half (keys_by d.read t.rows.now t.lens.now) s i j ci cj f) where
   abbrev k : ℕ
   k = i + (j - i) / 2
 
-  rows : Rows (keys ws ns) ns
-  rows = in_rows (keys ws ns) ns g
+  k_in : k < length t.rows.now
+  k_in = omega (arith, in_rows (rows t) H, count t)
 
-  k_in : k < length ws
-  k_in = omega (arith, turn.in_rows rows H, keys_length ws ns)
+  module _ (row : List ℕ) (e : row ≡ take (get_or t.lens.now k 0) (get_or t.rows.now k [])) where
+    key : get_or (keys_by d.read t.rows.now t.lens.now) k [] ≡ d.read row
+    key = keys_by_at d.read t.rows.now t.lens.now k k_in ∙ ap d.read (sym e)
 
-  k_in_lens : k < length ns
-  k_in_lens = turn.in_lens rows H
+    shared : (m : ℕ) → m ≤ ci → m ≤ cj → m ≤ lcp (d.read row) s
+    shared = shares (rows t) H (d.read row) key
 
-  module _ (n : ℕ) (e : n ≡ get_or ns k 0) where
-    abbrev u : List ℕ
-    u = take n (get_or ws k [])
-
-    key : get_or (keys ws ns) k [] ≡ u
-    key = keys_at ws ns k k_in ∙ ap (λ (m : ℕ). take m (get_or ws k [])) (sym e)
-
-    row_has : (length (take n (get_or ws k [])) ≡ n) × (n ≤ 6)
-    row_has = (row-size rows H u key ∙ sym e, subst (λ (x : ℕ). x ≤ 6) (sym e) (rows.most k (turn.in_rows rows H)))
-
-    shared : (m : ℕ) → m ≤ ci → m ≤ cj → m ≤ lcp u s
-    shared = shares rows H u key
-
-    -- the range that a comparison leaves
-    turned : (c : ℕ) (less : Bool) {i' j' ci' cj' : ℕ} → c ≡ lcp u s → less ≡ before s u
+    cut : (c : ℕ) (less : Bool) {i' j' ci' cj' : ℕ} → c ≡ lcp (d.read row) s → less ≡ before s (d.read row)
         → ((less ≡ true) × (i' ≡ i) × (j' ≡ k) × (ci' ≡ ci) × (cj' ≡ c)) ⊎ ((less ≡ false) × (i' ≡ k) × (j' ≡ j) × (ci' ≡ c) × (cj' ≡ cj))
-        → Cut (keys ws ns) s (j - i) i' j' ci' cj' f
-    turned c less q l (inl w) = recast w.1 w.2 w.3 w.4 (to_high rows H u key c (sym w.0 ∙ l) q)
-    turned c less q l (inr w) = recast w.1 w.2 w.3 w.4 (to_low rows H u key c (sym w.0 ∙ l) q)
+        → Cut (keys_by d.read t.rows.now t.lens.now) s i' j' ci' cj' f
+    cut = turned (rows t) H (d.read row) key
 
 pub loop-j-init : goal.loop-j-init
-loop-j-init c =
-    let a = c.args in
-    let us = keys a.rows.now a.lens.now in
-    let t = between a.text.now a.cursor a.limit in
-    subst (λ (n : ℕ). Half us t 0 n 0 0 false) (keys_length a.rows.now a.lens.now) (start us t (in_rows us a.lens.now c.requires.ordered_rows).one)
+loop-j-init g c =
+    let t = c.args.table.now in
+    subst (λ (n : ℕ). Half (keys_by g.D.Direction.read t.rows.now t.lens.now) (g.D.Direction.read c.args.text.now) 0 n 0 0 false)
+    (count t) (start _ _ (rows t).one)
 
-pub bounds-lens-k : goal.bounds-lens-k
-bounds-lens-k c = k_in_lens c.args.rows.now c.args.lens.now (between c.args.text.now c.args.cursor c.args.limit) c.requires.ordered_rows c.loop-j.invariant
+pub row-requires : goal.row-requires
+row-requires g c = k_in c.args.table.now c.loop-j.invariant
 
 pub compare-r-requires : goal.compare-r-requires
-compare-r-requires c =
-    let m = c.min-common in
-    record {
-      cursor_le_limit = c.requires.cursor_le_limit;
-      k_in_bounds = (k_in c.args.rows.now c.args.lens.now (between c.args.text.now c.args.cursor c.args.limit) c.requires.ordered_rows c.loop-j.invariant, row_has c.args.rows.now c.args.lens.now (between c.args.text.now c.args.cursor c.args.limit) c.requires.ordered_rows c.loop-j.invariant c.wide-len.result c.wide-len.ensures);
-      from_bound = shared c.args.rows.now c.args.lens.now (between c.args.text.now c.args.cursor c.args.limit) c.requires.ordered_rows c.loop-j.invariant c.wide-len.result c.wide-len.ensures m.result m.ensures.0 m.ensures.1;
-    }
-
-pub overflow_sub-j : goal.overflow_sub-j
-overflow_sub-j c =
-    let cut = turned c.args.rows.now c.args.lens.now (between c.args.text.now c.args.cursor c.args.limit) c.requires.ordered_rows c.loop-j.invariant c.wide-len.result c.wide-len.ensures c.compare-r.result.common c.compare-r.result.less c.compare-r.ensures.common_value c.compare-r.ensures.less_value
-    (elim c.if-r.branch [
-      | then-r w ↦ inl (w.if-r.true, w.i-is, w.j-is, w.common_i-is, w.common_j-is)
-      | else-r w ↦ inr (w.if-r.false, w.i-is, w.j-is, w.common_i-is, w.common_j-is)
-    ]) in
-    cut.order
-
-pub loop-j-smaller-then-j-i-le1 : goal.loop-j-smaller-then-j-i-le1
-loop-j-smaller-then-j-i-le1 c =
-    let cut = turned c.args.rows.now c.args.lens.now (between c.args.text.now c.args.cursor c.args.limit) c.requires.ordered_rows c.loop-j.invariant c.wide-len.result c.wide-len.ensures c.compare-r.result.common c.compare-r.result.less c.compare-r.ensures.common_value c.compare-r.ensures.less_value
-    (elim c.if-r.branch [
-      | then-r w ↦ inl (w.if-r.true, w.i-is, w.j-is, w.common_i-is, w.common_j-is)
-      | else-r w ↦ inr (w.if-r.false, w.i-is, w.j-is, w.common_i-is, w.common_j-is)
-    ]) in
-    omega (arith, cut.narrow, ap left c.if-first_key_inspected.false)
+compare-r-requires g c =
+    record { from_bound = shared c.args.table.now c.loop-j.invariant c.row.result.now c.row.ensures c.min-common.result (omega (arith, c.min-common.ensures)) (omega (arith, c.min-common.ensures)) }
 
 pub loop-j-preserved-then-j-i-le1 : goal.loop-j-preserved-then-j-i-le1
-loop-j-preserved-then-j-i-le1 c =
-    let cut = turned c.args.rows.now c.args.lens.now (between c.args.text.now c.args.cursor c.args.limit) c.requires.ordered_rows c.loop-j.invariant c.wide-len.result c.wide-len.ensures c.compare-r.result.common c.compare-r.result.less c.compare-r.ensures.common_value c.compare-r.ensures.less_value
+loop-j-preserved-then-j-i-le1 g c =
+    let n = cut c.args.table.now c.loop-j.invariant c.row.result.now c.row.ensures c.compare-r.result.common c.compare-r.result.less c.compare-r.ensures.common_value c.compare-r.ensures.less_value
     (elim c.if-r.branch [
       | then-r w ↦ inl (w.if-r.true, w.i-is, w.j-is, w.common_i-is, w.common_j-is)
       | else-r w ↦ inr (w.if-r.false, w.i-is, w.j-is, w.common_i-is, w.common_j-is)
     ]) in
-    again-first cut c.if-j-i-le1.true c.if-i-gt0.false c.if-j-i.false
-
-pub loop-j-smaller : goal.loop-j-smaller
-loop-j-smaller c =
-    let cut = turned c.args.rows.now c.args.lens.now (between c.args.text.now c.args.cursor c.args.limit) c.requires.ordered_rows c.loop-j.invariant c.wide-len.result c.wide-len.ensures c.compare-r.result.common c.compare-r.result.less c.compare-r.ensures.common_value c.compare-r.ensures.less_value
-    (elim c.if-r.branch [
-      | then-r w ↦ inl (w.if-r.true, w.i-is, w.j-is, w.common_i-is, w.common_j-is)
-      | else-r w ↦ inr (w.if-r.false, w.i-is, w.j-is, w.common_i-is, w.common_j-is)
-    ]) in
-    omega (arith, again_less cut c.if-j-i-le1.false)
+    again-first n c.if-j-i-le1.true c.if-i-gt0.false c.if-j-i.false
 
 pub loop-j-preserved : goal.loop-j-preserved
-loop-j-preserved c =
-    let cut = turned c.args.rows.now c.args.lens.now (between c.args.text.now c.args.cursor c.args.limit) c.requires.ordered_rows c.loop-j.invariant c.wide-len.result c.wide-len.ensures c.compare-r.result.common c.compare-r.result.less c.compare-r.ensures.common_value c.compare-r.ensures.less_value
+loop-j-preserved g c =
+    let n = cut c.args.table.now c.loop-j.invariant c.row.result.now c.row.ensures c.compare-r.result.common c.compare-r.result.less c.compare-r.ensures.common_value c.compare-r.ensures.less_value
     (elim c.if-r.branch [
       | then-r w ↦ inl (w.if-r.true, w.i-is, w.j-is, w.common_i-is, w.common_j-is)
       | else-r w ↦ inr (w.if-r.false, w.i-is, w.j-is, w.common_i-is, w.common_j-is)
     ]) in
-    again cut c.if-j-i-le1.false
+    again n c.if-j-i-le1.false
 
 pub returns-then-i-gt0 : goal.returns-then-i-gt0
-returns-then-i-gt0 c =
-    let cut = turned c.args.rows.now c.args.lens.now (between c.args.text.now c.args.cursor c.args.limit) c.requires.ordered_rows c.loop-j.invariant c.wide-len.result c.wide-len.ensures c.compare-r.result.common c.compare-r.result.less c.compare-r.ensures.common_value c.compare-r.ensures.less_value
+returns-then-i-gt0 g c =
+    let n = cut c.args.table.now c.loop-j.invariant c.row.result.now c.row.ensures c.compare-r.result.common c.compare-r.result.less c.compare-r.ensures.common_value c.compare-r.ensures.less_value
     (elim c.if-r.branch [
       | then-r w ↦ inl (w.if-r.true, w.i-is, w.j-is, w.common_i-is, w.common_j-is)
       | else-r w ↦ inr (w.if-r.false, w.i-is, w.j-is, w.common_i-is, w.common_j-is)
     ]) in
-    out_later cut c.if-j-i-le1.true c.if-i-gt0.true
-
-pub returns-then-j-i : goal.returns-then-j-i
-returns-then-j-i c =
-    let cut = turned c.args.rows.now c.args.lens.now (between c.args.text.now c.args.cursor c.args.limit) c.requires.ordered_rows c.loop-j.invariant c.wide-len.result c.wide-len.ensures c.compare-r.result.common c.compare-r.result.less c.compare-r.ensures.common_value c.compare-r.ensures.less_value
-    (elim c.if-r.branch [
-      | then-r w ↦ inl (w.if-r.true, w.i-is, w.j-is, w.common_i-is, w.common_j-is)
-      | else-r w ↦ inr (w.if-r.false, w.i-is, w.j-is, w.common_i-is, w.common_j-is)
-    ]) in
-    out-met cut c.if-j-i.true
-
-pub returns-then-first_key_inspected : goal.returns-then-first_key_inspected
-returns-then-first_key_inspected c =
-    let cut = turned c.args.rows.now c.args.lens.now (between c.args.text.now c.args.cursor c.args.limit) c.requires.ordered_rows c.loop-j.invariant c.wide-len.result c.wide-len.ensures c.compare-r.result.common c.compare-r.result.less c.compare-r.ensures.common_value c.compare-r.ensures.less_value
-    (elim c.if-r.branch [
-      | then-r w ↦ inl (w.if-r.true, w.i-is, w.j-is, w.common_i-is, w.common_j-is)
-      | else-r w ↦ inr (w.if-r.false, w.i-is, w.j-is, w.common_i-is, w.common_j-is)
-    ]) in
-    out_first cut c.if-j-i-le1.true c.if-i-gt0.false c.if-j-i.false c.if-first_key_inspected.true
+    out_later n c.if-j-i-le1.true c.if-i-gt0.true

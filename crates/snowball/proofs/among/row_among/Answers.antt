@@ -1,35 +1,15 @@
 -- `among::row_among` meets its contract: the halving and the walk find the longest row. Assumes nothing.
-use mathlib.Core.Path.{sym, ◌∙◌, subst}
-use Prim.Native.Nat.{ℕ, ◌<◌}
 use native.Mathlib.Omega.{arith}
-use Rattle.snowball.specs.Rows.{keys}
-use Rattle.snowball.specs.Search.{between, hit}
-use Rattle.snowball.proofs.Table.{in_table}
-use Rattle.snowball.proofs.Answers.{row_ahead}
+use Rattle.snowball.specs.Search.{hit}
+use Rattle.snowball.proofs.Searched.{count, row_is}
 use Rattle.snowball.proofs.among.row_among.Goals as goal
 
-pub bounds-lens-row : goal.bounds-lens-row
-bounds-lens-row c =
-    let t = in_table (keys c.args.rows.now c.args.lens.now) c.args.lens.now c.args.links.now c.requires.table in
-    omega (arith, c.halve-p.ensures.in_table, t.rows.ns_length)
+pub bounds-table-place : goal.bounds-table-place
+bounds-table-place g c = omega (arith, c.halve-place.ensures.in_table, count c.args.table.now)
 
-pub returns-then-wide-common : goal.returns-then-wide-common
-returns-then-wide-common c =
-    let p = c.halve-p in
-    λ cs e. row_ahead c.args.rows.now c.args.lens.now c.args.links.now p.result.row p.result.common p.result.row cs e
-    (between c.args.text.now c.args.cursor c.args.limit) c.requires.table p.ensures (hit (omega (arith, c.wide.ensures, c.if-wide-common.true)))
-
-pub walk-requires : goal.walk-requires
-walk-requires c =
-    let t = in_table (keys c.args.rows.now c.args.lens.now) c.args.lens.now c.args.links.now c.requires.table in
-    let l = t.rows.ns_length in
-    record {
-      i_in_bounds = (omega (arith, c.halve-p.ensures.in_table), t.js_length ∙ sym l);
-      links_fall = λ k h n. t.smaller k (subst (λ (m : ℕ). k < m) l h) n;
-    }
+pub returns-then-from-place : goal.returns-then-from-place
+returns-then-from-place g c =
+    row_is c.args.table.now g.met.D.Direction.same_length c.args.text.now c.halve-place.ensures (hit (omega (arith, c.from.ensures, c.if-from-place.true)))
 
 pub returns : goal.returns
-returns c =
-    let p = c.halve-p in
-    λ cs e. row_ahead c.args.rows.now c.args.lens.now c.args.links.now p.result.row p.result.common c.walk.result cs e
-    (between c.args.text.now c.args.cursor c.args.limit) c.requires.table p.ensures c.walk.ensures
+returns g c = row_is c.args.table.now g.met.D.Direction.same_length c.args.text.now c.halve-place.ensures c.walk.ensures

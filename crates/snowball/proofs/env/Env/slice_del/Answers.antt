@@ -1,27 +1,19 @@
 -- `Env::slice_del` meets its contract. Assumes nothing.
-use mathlib.Core.Path.{refl}
+use mathlib.Core.Path.{refl, ◌∙◌}
 use mathlib.Core.List.{[]}
 use native.Mathlib.Omega.{arith}
 use Rattle.utf8.specs.Utf8.{encode}
 use Rattle.snowball.proofs.Standing.{cursor-within}
 use Rattle.snowball.proofs.Slicing.{cut_tail}
-use Rattle.snowball.proofs.Cut.{tail_moved, tail_stays}
+use Rattle.snowball.proofs.Cut.{tail_least}
 use Rattle.snowball.proofs.env.Env.slice_del.Goals as goal
 
-pub returns-then-self-end : goal.returns-then-self-end
-returns-then-self-end c =
+pub returns-then-self : goal.returns-then-self
+returns-then-self c =
     let x = c.args.self in
     let i = cursor-within x c.requires.0.0 c.requires.0.1 in (
       record { bra = refl; ket = refl },
-      cut_tail x x.bra c.requires.1 (omega arith) c.requires.0.1.within (tail_moved x.bra x.limit (omega arith) x.cursor i (omega arith)),
-    )
-
-pub returns-else-self-end : goal.returns-else-self-end
-returns-else-self-end c =
-    let x = c.args.self in
-    let i = cursor-within x c.requires.0.0 c.requires.0.1 in (
-      record { bra = refl; ket = refl },
-      cut_tail x x.cursor c.requires.1 (omega arith) c.requires.0.1.within (tail_stays x.bra x.limit (omega arith) x.cursor i (omega arith)),
+      cut_tail x c.min.result c.requires.1 (omega arith) c.requires.0.1.within (c.min.ensures ∙ tail_least x.bra x.limit (omega arith) x.cursor i),
     )
 
 pub returns : goal.returns

@@ -1,0 +1,26 @@
+-- `Env::replace_s` meets its contract. Assumes nothing.
+use mathlib.Core.Path.{◌≡◌, refl, ◌∙◌}
+use native.Mathlib.Omega.{arith}
+use borrow.Author.Rules.{rules}
+use lib.ListN.{length}
+use Rattle.snowball.specs.Stands.{work_size}
+use Rattle.snowball.proofs.Copy.{copied_bytes}
+use Rattle.snowball.proofs.Cut.{moved-behind, moved_least}
+use Rattle.snowball.proofs.env.Env.replace_s.Goals as goal
+use Rattle.snowball.proofs.env.Env.replace_s.Goals.{then-self-ket, else-self-ket}
+
+pub returns : goal.returns
+returns c =
+    let x = c.args in
+    let e = x.self in
+    let n : length e.current ≡ work_size = search rules in
+    record {
+      bytes =
+          copied_bytes e.current c.copy_within.new.self c.copy_from_slice.new.self x.s.now x.bra x.ket e.limit (omega arith) (omega arith) (omega arith)
+          (omega arith) c.copy_within.ensures.after c.copy_from_slice.ensures.after;
+      limit = refl;
+      cursor = elim c.if-self-ket.branch [ then-self-ket w ↦ w.self-is ∙ moved-behind e.cursor x.bra x.ket (length x.s.now) (omega arith) | else-self-ket w ↦ w.self-is ∙ w.min.ensures ∙ moved_least e.cursor x.bra x.ket (length x.s.now) (omega arith) ];
+      limit_backward = refl;
+      bra = refl;
+      ket = refl;
+    }

@@ -1,0 +1,2 @@
+-- Calls that are made again.
+pub mod Tries
