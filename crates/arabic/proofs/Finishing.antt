@@ -14,7 +14,7 @@ use Rattle.definition.specs.Words.{Word}
 use Rattle.definition.specs.Finish.{finish}
 use Rattle.definition.proofs.Finish.{other_last}
 use Rattle.definition.proofs.Match.{empty}
-use Rattle.utf8.specs.Letters.{SomeLetter, Read, Wrote}
+use Rattle.utf8.specs.Letters.{Read, Wrote}
 use Rattle.utf8.specs.Spelt.{Encodes}
 use Rattle.arabic.specs.Bytes.{LetterIs}
 use Rattle.utf8.specs.declared.letters.Letter.{Letter}
@@ -41,19 +41,13 @@ finish-step c [] j limit e = rw (eq-eqb j limit (omega arith), other_last c) ref
 finish-step c (d ∷ t) j limit e = rw (ne_eqb j limit (λ (q : j ≡ limit). omega (arith, cons_size d t, encode1_pos d))) refl
 
 module _ {old : List ℕ} {turns : ℕ} {text : List ℕ} {i k : ℕ} (v : Inv old turns text i k) where
-  pub letter : i < length old → SomeLetter text i
-  letter = ahead.letter v.to
-
   -- one turn: the letter l is read at i, and c is what it becomes
   module _ (h : i < length old) (l : Letter) (f : Read text i l) where
-    n : Next text i (length old) v.to.rest
+    abbrev n : Next text i (length old) v.to.rest
     n = ahead.next v.to h
 
     is : (l.code ≡ n.c) × (l.width ≡ length (encode1 n.c))
-    is = f n.c (encode n.t) n.at
-
-    pub moves : i + l.width ≤ length old
-    moves = omega (arith, is.1, n.ends)
+    is = ahead.read_is v.to h l f
 
     -- its bytes
     pub letter_is : (own : List ℕ) → own ≡ take (i + l.width - i) (drop i text) → LetterIs own l.code
@@ -72,7 +66,7 @@ module _ {old : List ℕ} {turns : ℕ} {text : List ℕ} {i k : ℕ} (v : Inv o
       same_size = ap (λ (x : ℕ). length (encode1 x)) is_changed ∙ changed-size (eqb (i + l.width) (length old)) n.c ∙ sym is.1
 
       pub room : i + length (encode1 c) ≤ length old
-      room = omega (arith, same_size, moves)
+      room = omega (arith, same_size, (ahead.moves v.to h l f).1)
 
       pub code_top : c < 0x110000
       code_top = omega (arith, is_changed, changed_top (eqb (i + l.width) (length old)) n.c n.at.0)

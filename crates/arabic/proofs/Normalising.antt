@@ -13,7 +13,7 @@ use Rattle.definition.specs.Words.{Word}
 use Rattle.definition.specs.Normal.{normal, normalise}
 use Rattle.definition.specs.Facts.{plain_letter}
 use Rattle.definition.proofs.Passed.{plain-normal}
-use Rattle.utf8.specs.Letters.{LetterAt, SomeLetter, Read, Wrote}
+use Rattle.utf8.specs.Letters.{LetterAt, Read, Wrote}
 use Rattle.utf8.specs.Spelt.{Encodes}
 use Rattle.utf8.specs.declared.letters.Letter.{Letter}
 use Rattle.arabic.specs.Rows.{class_of, listed, given_bytes}
@@ -38,12 +38,9 @@ pub start : (text out cs : List ℕ) → length out ≡ work_size → Encodes te
 start text out cs z e = record { to = ahead.start text cs e; bytes = refl; bound = omega arith; size = z }
 
 module _ {text : List ℕ} {i : ℕ} {out : List ℕ} {at : ℕ} (v : Inv text i out at) where
-  pub letter : i < length text → SomeLetter text i
-  letter = ahead.letter v.to
-
   -- one turn: the letter at i
   module _ (h : i < length text) where
-    pub next : Next text i (length text) v.to.rest
+    abbrev pub next : Next text i (length text) v.to.rest
     next = ahead.next v.to h
 
     rest-bytes : encode (normalise v.to.rest) ≡ encode (normal next.c) ++ encode (normalise next.t)
@@ -80,10 +77,7 @@ module _ {text : List ℕ} {i : ℕ} {out : List ℕ} {at : ℕ} (v : Inv text i
     -- the letter l is read
     module _ (l : Letter) (f : Read text i l) where
       is : (l.code ≡ next.c) × (l.width ≡ length (encode1 next.c))
-      is = f next.c (encode next.t) next.at
-
-      pub moves : (i < i + l.width) × (i + l.width ≤ length text)
-      moves = omega (arith, is.1, next.wide, next.ends)
+      is = ahead.read_is v.to h l f
 
       pub not_plain : (b : Bool) → Tells text i b → b ≡ false → plain_letter l.code ≡ false
       not_plain b g e = ap plain_letter is.0 ∙ sym (told next b g) ∙ e

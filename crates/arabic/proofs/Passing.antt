@@ -8,7 +8,6 @@ use lib.ListN.{length}
 use Rattle.definition.specs.Words.{Word, both, every}
 use Rattle.definition.specs.Facts.{plain_letter}
 use Rattle.utf8.specs.Utf8.{encode1, encode}
-use Rattle.utf8.specs.Letters.{SomeLetter}
 use Rattle.plain_letters.specs.Telling.{Tells}
 use Rattle.plain_letters.proofs.Ranges.{width}
 use Rattle.utf8.specs.Spelt.{Encodes, Spelt}
@@ -45,9 +44,6 @@ module _ {text : List ℕ} {i : ℕ} (v : Inv text i) where
   module _ (h : i < length text) where
     pub next : Next text i (length text) v.to.rest
     next = ahead.next v.to h
-
-    pub letter : SomeLetter text i
-    letter = ahead.letter v.to h
 
     module _ (b : Bool) (f : Tells text i b) where
       -- all are plain if this one and those behind it are

@@ -10,7 +10,7 @@ use Rattle.definition.specs.Words.{Word, both}
 use Rattle.definition.specs.Floating.{floating, no_mark}
 use Rattle.definition.proofs.Match.{by}
 use Rattle.utf8.specs.Utf8.{Scalars, encode1, encode}
-use Rattle.utf8.specs.Letters.{SomeLetter, Read}
+use Rattle.utf8.specs.Letters.{Read}
 use Rattle.utf8.specs.Spelt.{Encodes, Spelt}
 use Rattle.utf8.specs.declared.letters.Letter.{Letter}
 use Rattle.utf8.proofs.Text.{encode1_pos}
@@ -33,19 +33,13 @@ module _ {text : List ℕ} {i : ℕ} (v : Inv text i) where
   pub none : length text ≤ i → (cs : Word) → Encodes text cs → false ≡ not (no_mark cs)
   none h = of_word false (sym (ap not (v.same ∙ ap no_mark (ahead.none_left v.to h))))
 
-  pub letter : i < length text → SomeLetter text i
-  letter = ahead.letter v.to
-
   -- one turn: the letter at i is read as l
   module _ (h : i < length text) (l : Letter) (g : Read text i l) where
-    next : Next text i (length text) v.to.rest
+    abbrev next : Next text i (length text) v.to.rest
     next = ahead.next v.to h
 
     is : (l.code ≡ next.c) × (l.width ≡ length (encode1 next.c))
-    is = g next.c (encode next.t) next.at
-
-    pub moves : (i < i + l.width) × (i + l.width ≤ length text)
-    moves = omega (arith, is.1, next.wide, next.ends)
+    is = ahead.read_is v.to h l g
 
     -- b tells whether it is a mark
     module _ (b : Bool) (f : b ≡ floating l.code) where

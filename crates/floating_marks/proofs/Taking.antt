@@ -9,7 +9,7 @@ use lib.Seq.{length-take-le}
 use Rattle.definition.specs.Words.{Word, pick}
 use Rattle.definition.specs.Floating.{floating, unmarked}
 use Rattle.utf8.specs.Utf8.{encode1, encode}
-use Rattle.utf8.specs.Letters.{SomeLetter, Read, Wrote}
+use Rattle.utf8.specs.Letters.{Read, Wrote}
 use Rattle.utf8.specs.Spelt.{Encodes, Spelt}
 use Rattle.utf8.specs.declared.letters.Letter.{Letter}
 use Rattle.utf8.proofs.ReadLetter.{scalar_top}
@@ -28,19 +28,13 @@ pub start : (text : List ℕ) (room : ℕ) (out : List ℕ) → Spelt text → l
 start text room out s z = record { to = ahead.start text s.word s.encodes; bytes = refl; bound = omega arith; size = z }
 
 module _ {text : List ℕ} {room i : ℕ} {out : List ℕ} {at : ℕ} (v : Inv text room i out at) where
-  pub letter : i < length text → SomeLetter text i
-  letter = ahead.letter v.to
-
   -- one turn: the letter at i is read as l
   module _ (h : i < length text) (l : Letter) (g : Read text i l) where
-    next : Next text i (length text) v.to.rest
+    abbrev next : Next text i (length text) v.to.rest
     next = ahead.next v.to h
 
     is : (l.code ≡ next.c) × (l.width ≡ length (encode1 next.c))
-    is = g next.c (encode next.t) next.at
-
-    pub moves : (i < i + l.width) × (i + l.width ≤ length text)
-    moves = omega (arith, is.1, next.wide, next.ends)
+    is = ahead.read_is v.to h l g
 
     pub code_top : l.code < 0x110000
     code_top = omega (arith, is.0, scalar_top next.c next.at.0)

@@ -1,6 +1,9 @@
 // The row of each step of the stemmer in one word: 18 numbers parted by spaces. The kind check and each ending get the word as it is; the
 // fronts follow each other, each on what the one before it left.
 ghost use Rattle.std.specs.Prelude.{◌≡◌, Ok};
+ghost use Rattle.definition.specs.Fronts.{Fronting};
+ghost use Rattle.definition.specs.Tries.{Try};
+ghost use Rattle.arabic.specs.Fronts.{GivesFront, ReadyFront};
 ghost use Rattle.stemmer.specs.Entries.{checked};
 
 use arabic::context::{Context, checked, r_Prefix_Step4_Verb};
@@ -12,7 +15,7 @@ use arabic::suffix_steps::{
     r_Suffix_Noun_Step2c1, r_Suffix_Noun_Step2c2, r_Suffix_Noun_Step3, r_Suffix_Verb_Step1,
     r_Suffix_Verb_Step2a, r_Suffix_Verb_Step2b, r_Suffix_Verb_Step2c,
 };
-use arabic::tried::left_by;
+use arabic::tried::{Tried, left_by};
 use snowball::env::Env;
 use std::io;
 use std::io::Write;
@@ -23,6 +26,14 @@ use stemmer::{BadWord, check_word};
 struct Word<'a> {
     bytes: &'a [u8],
     ghost accepted: { checked bytes.now ≡ Ok tt },
+}
+
+// The environment that a front's step leaves for the next one.
+fn left_for_next(tried: Tried) -> Env
+    requires { (y : Try Fronting) × GivesFront tried y }
+    ensures { ReadyFront result }
+{
+    left_by(tried)
 }
 
 impl<'a> Word<'a> {
@@ -72,11 +83,11 @@ impl<'a> Word<'a> {
 
     fn front_rows(&self, mut context: Context) -> [usize; 6] {
         let first = r_Prefix_Step1(self.at_front());
-        let second = r_Prefix_Step2(left_by(first.outcome));
-        let noun_a = r_Prefix_Step3a_Noun(left_by(second.outcome));
-        let noun_b = r_Prefix_Step3b_Noun(left_by(noun_a.outcome));
-        let verb = r_Prefix_Step3_Verb(left_by(noun_b.outcome));
-        let last = r_Prefix_Step4_Verb(left_by(verb.outcome), &mut context);
+        let second = r_Prefix_Step2(left_for_next(first.outcome));
+        let noun_a = r_Prefix_Step3a_Noun(left_for_next(second.outcome));
+        let noun_b = r_Prefix_Step3b_Noun(left_for_next(noun_a.outcome));
+        let verb = r_Prefix_Step3_Verb(left_for_next(noun_b.outcome));
+        let last = r_Prefix_Step4_Verb(left_for_next(verb.outcome), &mut context);
         [
             first.row, second.row, noun_a.row, noun_b.row, verb.row, last.row,
         ]

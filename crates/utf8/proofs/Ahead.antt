@@ -8,7 +8,8 @@ use lib.Seq.{drop-drop, drop-append_seam}
 use Rattle.utf8.specs.Utf8.{Scalars, encode1, encode}
 use Rattle.utf8.proofs.Text.{encode1_pos, encode_injective}
 use Rattle.definition.specs.Words.{Word}
-use Rattle.utf8.specs.Letters.{LetterAt, SomeLetter}
+use Rattle.utf8.specs.Letters.{LetterAt, SomeLetter, Read}
+use Rattle.utf8.specs.declared.letters.Letter.{Letter}
 use Rattle.utf8.specs.Spelt.{Encodes}
 
 -- What every letter loop knows: word is what the old text encodes, and rest are its letters that stand in the text from the byte i on.
@@ -81,6 +82,14 @@ module _ {old text : List ℕ} {i : ℕ} (v : Ahead old text i) where
 
   pub letter : i < length old → SomeLetter text i
   letter h = let n = next h in (n.c, encode n.t, n.at)
+
+  -- the letter at i, read as l, is the next one, and the place behind it lies further on in the text
+  module _ (h : i < length old) (l : Letter) (g : Read text i l) where
+    pub read_is : (l.code ≡ (next h).c) × (l.width ≡ length (encode1 (next h).c))
+    read_is = g (next h).c (encode (next h).t) (next h).at
+
+    pub moves : (i < i + l.width) × (i + l.width ≤ length old)
+    moves = omega (arith, read_is.1, (next h).wide, (next h).ends)
 
   -- past the next letter, also where the text in front has changed
   abbrev pub past : (n : Next text i (length old) v.rest) (new : List ℕ) (j : ℕ) → j ≡ i + length (encode1 n.c) → drop j new ≡ drop j text

@@ -2,7 +2,8 @@
 use mathlib.Core.Path.{refl}
 use native.Mathlib.Omega.{arith}
 use lib.ListN.{length}
-use Rattle.floating_marks.proofs.Taking.{start, letter, mark_turn, moves, code_top, fits, letter_turn, done}
+use Rattle.utf8.proofs.Ahead.{letter, moves}
+use Rattle.floating_marks.proofs.Taking.{start, mark_turn, code_top, fits, letter_turn, done}
 use Rattle.floating_marks.proofs.take_out.Goals as goal
 use Rattle.floating_marks.proofs.take_out.Goals.{then-not-is_mark, else-not-is_mark}
 
@@ -10,7 +11,7 @@ pub loop-cursor-init : goal.loop-cursor-init
 loop-cursor-init c = start c.args.word.now (length c.args.out.now) c.args.out.now c.requires.0 refl
 
 pub read_letter-letter-requires : goal.read_letter-letter-requires
-read_letter-letter-requires c = letter c.loop-cursor.invariant (omega arith)
+read_letter-letter-requires c = letter c.loop-cursor.invariant.to (omega arith)
 
 pub put_letter-end-requires : goal.put_letter-end-requires
 put_letter-end-requires c =
@@ -19,10 +20,10 @@ put_letter-end-requires c =
     (omega (arith, fits v (omega arith) l.result l.ensures c.requires.1, v.size), code_top v (omega arith) l.result l.ensures)
 
 pub overflow_add-cursor : goal.overflow_add-cursor
-overflow_add-cursor c = let l = c.read_letter-letter in omega (arith, moves c.loop-cursor.invariant (omega arith) l.result l.ensures)
+overflow_add-cursor c = let l = c.read_letter-letter in omega (arith, moves c.loop-cursor.invariant.to (omega arith) l.result l.ensures)
 
 pub loop-cursor-smaller : goal.loop-cursor-smaller
-loop-cursor-smaller c = let l = c.read_letter-letter in omega (arith, moves c.loop-cursor.invariant (omega arith) l.result l.ensures)
+loop-cursor-smaller c = let l = c.read_letter-letter in omega (arith, moves c.loop-cursor.invariant.to (omega arith) l.result l.ensures)
 
 pub returns : goal.returns
 returns c = done c.loop-cursor.invariant c.requires.1 c.loop-cursor-test.false

@@ -1,7 +1,8 @@
 -- `normalize::finish_text` meets its contract: each turn changes one letter in place, and the turns are enough for all. Assumes nothing.
 use mathlib.Core.Path.{refl}
 use native.Mathlib.Omega.{arith}
-use Rattle.arabic.proofs.Finishing.{start, letter, moves, letter_is, room, code_top, turn, at_end, after_turns}
+use Rattle.utf8.proofs.Ahead.{letter, moves}
+use Rattle.arabic.proofs.Finishing.{start, letter_is, room, code_top, turn, at_end, after_turns}
 use Rattle.arabic.proofs.normalize.finish_text.Goals as goal
 
 pub loop-init : goal.loop-init
@@ -11,18 +12,18 @@ pub returns-then-cursor-limit : goal.returns-then-cursor-limit
 returns-then-cursor-limit c = at_end c.loop.invariant c.if-cursor-limit.true
 
 pub read_letter-letter-requires : goal.read_letter-letter-requires
-read_letter-letter-requires c = letter c.loop.invariant (omega arith)
+read_letter-letter-requires c = letter c.loop.invariant.to (omega arith)
 
 pub overflow_add-end : goal.overflow_add-end
 overflow_add-end c =
     let l = c.read_letter-letter in
-    omega (arith, moves c.loop.invariant (omega arith) l.result l.ensures, c.requires.fits)
+    omega (arith, moves c.loop.invariant.to (omega arith) l.result l.ensures, c.requires.fits)
 
 pub slice_bounds-changed_of-end : goal.slice_bounds-changed_of-end
 slice_bounds-changed_of-end c =
     let l = c.read_letter-letter in
     let v = c.loop.invariant in
-    omega (arith, moves v (omega arith) l.result l.ensures, v.size)
+    omega (arith, moves v.to (omega arith) l.result l.ensures, v.size)
 
 pub changed_of-c-requires : goal.changed_of-c-requires
 changed_of-c-requires c =

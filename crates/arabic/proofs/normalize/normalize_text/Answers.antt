@@ -1,7 +1,8 @@
 -- `normalize::normalize_text` meets its contract: each turn copies a plain letter, or reads another and writes what stands for it. Assumes nothing.
 use mathlib.Core.Path.{refl, sym, ◌∙◌}
 use native.Mathlib.Omega.{arith}
-use Rattle.arabic.proofs.Normalising.{start, letter, plain-room, plain_turn, moves, not_plain, small, room, turn, done}
+use Rattle.utf8.proofs.Ahead.{letter, moves}
+use Rattle.arabic.proofs.Normalising.{start, plain-room, plain_turn, not_plain, small, room, turn, done}
 use Rattle.arabic.proofs.normalize.normalize_text.Goals as goal
 
 pub loop-cursor-init : goal.loop-cursor-init
@@ -11,13 +12,13 @@ loop-cursor-init c =
     start a.text.now a.out.now p.spelt.word p.fits.1 p.spelt.encodes
 
 pub plain_at-plain-requires : goal.plain_at-plain-requires
-plain_at-plain-requires c = letter c.loop-cursor.invariant (omega arith)
+plain_at-plain-requires c = letter c.loop-cursor.invariant.to (omega arith)
 
 pub copy_plain-end-requires-clause-some_letter : goal.copy_plain-end-requires-clause-some_letter
 copy_plain-end-requires-clause-some_letter c =
     let p = c.plain_at-plain in
     let v = c.loop-cursor.invariant in
-    (letter v (omega arith), λ x t l. sym c.if-plain.true ∙ p.ensures x t l)
+    (letter v.to (omega arith), λ x t l. sym c.if-plain.true ∙ p.ensures x t l)
 
 pub copy_plain-end-requires-clause-at_in_bounds : goal.copy_plain-end-requires-clause-at_in_bounds
 copy_plain-end-requires-clause-at_in_bounds c =
@@ -32,12 +33,12 @@ loop-cursor-preserved-then-plain c =
     plain_turn c.loop-cursor.invariant (omega arith) p.result p.ensures c.if-plain.true k.result k.new.out k.ensures
 
 pub read_letter-letter-requires : goal.read_letter-letter-requires
-read_letter-letter-requires c = letter c.loop-cursor.invariant (omega arith)
+read_letter-letter-requires c = letter c.loop-cursor.invariant.to (omega arith)
 
 pub overflow_add-next : goal.overflow_add-next
 overflow_add-next c =
     let l = c.read_letter-letter in
-    omega (arith, moves c.loop-cursor.invariant (omega arith) l.result l.ensures, c.requires.fits.0)
+    omega (arith, moves c.loop-cursor.invariant.to (omega arith) l.result l.ensures, c.requires.fits.0)
 
 pub class_of-class-requires : goal.class_of-class-requires
 class_of-class-requires c =
@@ -48,7 +49,7 @@ class_of-class-requires c =
 pub slice_bounds-given-end : goal.slice_bounds-given-end
 slice_bounds-given-end c =
     let l = c.read_letter-letter in
-    omega (arith, moves c.loop-cursor.invariant (omega arith) l.result l.ensures)
+    omega (arith, moves c.loop-cursor.invariant.to (omega arith) l.result l.ensures)
 
 pub given-requires : goal.given-requires
 given-requires c =
@@ -64,7 +65,7 @@ put_bytes-end-requires c =
 pub loop-cursor-smaller : goal.loop-cursor-smaller
 loop-cursor-smaller c =
     let l = c.read_letter-letter in
-    omega (arith, moves c.loop-cursor.invariant (omega arith) l.result l.ensures)
+    omega (arith, moves c.loop-cursor.invariant.to (omega arith) l.result l.ensures)
 
 pub loop-cursor-preserved : goal.loop-cursor-preserved
 loop-cursor-preserved c =
