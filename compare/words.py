@@ -4,8 +4,15 @@ import random
 FRONT = range(3, 10)
 END = range(10, 22)
 FILLERS = [0x62F, 0x631, 0x62D]  # in no row of A_3 to A_21
-FOREIGN = [0x24, 0x41, 0x7A, 0x7F, 0x80, 0xE9, 0x3A9, 0x670, 0x6F0, 0x7FF, 0x800, 0xD7FF, 0xE000, 0xFB50, 0xFE70, 0xFE7F, 0xFE80, 0xFEFC, 0xFEFD,
+FOREIGN = [0x24, 0x41, 0x7A, 0x7F, 0x80, 0xE9, 0x3A9, 0x670, 0x6F0, 0x7FF, 0x800, 0xD7FF, 0xE000, 0xFB50, 0xFE6F, 0xFE80, 0xFEFC, 0xFEFD,
            0xFFFF, 0x10000, 0x1F453, 0x10FFFF]
+NEAR_MARKS = list(range(0xFE70, 0xFE80))  # the floating marks, and FE73 and FE75, which are none
+MARKS = {c for c in NEAR_MARKS if c not in (0xFE73, 0xFE75)}
+
+
+def unmarked(word):
+    """The word without its floating marks."""
+    return [c for c in word if c not in MARKS]
 
 
 def encoded(word):
@@ -41,15 +48,22 @@ def listed(tables):
         yield [c]
         yield [0x627, 0x644, c, 0x62F, 0x631]
         yield [0x62F, 0x631, c, 0x647, 0x627]
+    for c in NEAR_MARKS:
+        yield [c]
+        yield [0x627, c, 0x644, 0x62F, 0x631]  # inside an article
+        yield [0x645, 0x644, c, 0x643]  # one letter below a guard
+        yield [0x627, 0x644, 0x62F, 0x647, c, 0x627, c]  # inside and behind an ending
+        yield [c, 0x623, c, 0x628]
 
 
 def longest():
     """Words of 250 to 255 bytes."""
-    for c in (0x61, 0x647, 0x62F, 0x64B, 0xFEFB, 0xFEF7, 0xFE8D, 0x10FFFF):
+    for c in (0x61, 0x647, 0x62F, 0x64B, 0xFEFB, 0xFEF7, 0xFE8D, 0xFE73, 0xFE7F, 0x10FFFF):
         yield [c] * (255 // size([c]))
         yield [0x627, 0x644] + [c] * (250 // size([c]))
     yield [0x623, 0x627, 0x648, 0x628, 0x627, 0x644] + [0x62F] * 121
     yield [0x62F] * 100 + [0x647, 0x627] * 13
+    yield [0xFE76, 0x62F] * 50 + [0xFE7F]
 
 
 def parts(tables, rng):
@@ -67,11 +81,11 @@ CLOSE = [0x623, 0x627, 0x648, 0x641, 0x628, 0x644, 0x643, 0x633, 0x64A, 0x62A, 0
 
 
 def marked(tables, rng, word):
-    """The word with keys of A_0 and other characters put in."""
+    """The word with keys of A_0, letters of FE70 to FE7F and other characters put in."""
     out = []
     for c in word:
         while rng.random() < 0.15:
-            out.append(rng.choice(rows(tables, [0]))[0] if rng.random() < 0.8 else rng.choice(FOREIGN))
+            out.append(rng.choice(rows(tables, [0]))[0] if rng.random() < 0.8 else rng.choice(NEAR_MARKS + FOREIGN))
         out.append(c)
     return out
 

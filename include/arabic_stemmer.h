@@ -1,5 +1,9 @@
 /* The Arabic stemmer of rust-stemmers 1.2.0, proved. Link libarabic_stemmer.a, which ./build-library writes.
  *
+ * Floating marks, vowel marks that stand alone as phones send them (U+FE70 to U+FE72, U+FE74, U+FE76 to U+FE7F), are taken
+ * out of the word first where it is stemmed or normalised or its kind is asked for: a word has the answers of the same word
+ * without them. Its length, of up to 255 bytes, is counted with them.
+ *
  * Every function ends, allocates nothing and keeps no state: calls from several threads need no lock as long as
  * their outputs do not overlap. A word is any bytes and is only read. Pointers must not be null, also where the
  * length is 0; word and output must not overlap. */
@@ -49,26 +53,26 @@ typedef struct {
 } arabic_stemmer_kind_answer;
 
 /* The stem of the word: with code 0 its bytes stand in front of the output, and the bytes behind the count are the
- * old ones. A word of nothing but characters that normalising deletes has an empty stem, with code 0
+ * old ones. A word of nothing but floating marks and characters that normalising deletes has an empty stem, with code 0
  * and count 0.
  * The number of endings is that of all endings that were cut on the way to the stem, one after the other; what is taken or
  * changed in front is not counted, nor is a last letter that is changed. For a word of n letters when it is normalised it is
  * at most n - 2, and 0 where n is below 3; for a defined word it is at most 3. */
 arabic_stemmer_stem_answer arabic_stemmer_stem(const uint8_t *word, size_t word_length, uint8_t *output, size_t output_length);
 
-/* The word normalised, with nothing cut: vowel marks, the tatweel and some punctuation deleted, digits and presentation forms
- * replaced. A well-formed text of any length may be normalised in blocks of up to 255 bytes, each cut before a byte that is not
- * 0x80 to 0xBF: the results, joined, do not depend on where. A result normalised again is the same. A word of up to 191 bytes
- * has a result of at most 255; a longer result is refused when it is handed in again, and has to be cut. */
+/* The word normalised, with nothing cut: floating and other vowel marks, the tatweel and some punctuation deleted, digits and
+ * presentation forms replaced. A well-formed text of any length may be normalised in blocks of up to 255 bytes, each cut before a
+ * byte that is not 0x80 to 0xBF: the results, joined, do not depend on where. A result normalised again is the same. A word of up
+ * to 191 bytes has a result of at most 255; a longer result is refused when it is handed in again, and has to be cut. */
 arabic_stemmer_answer arabic_stemmer_normalise(const uint8_t *word, size_t word_length, uint8_t *output, size_t output_length);
 
-/* The stemmer's last step alone, on the word as given: a last letter U+0622 to U+0626 becomes U+0621; elsewhere these lose
- * their hamza or madda. The result has as many bytes as the word, and finished again it is the same. It is for whole words:
+/* The stemmer's last step alone, on the word as given, floating marks and all: a last letter U+0622 to U+0626 becomes U+0621;
+ * elsewhere these lose their hamza or madda. The result has as many bytes as the word, and finished again it is the same. It is for whole words:
  * in blocks, the last letter of each would change as a last letter. */
 arabic_stemmer_answer arabic_stemmer_finish(const uint8_t *word, size_t word_length, uint8_t *output, size_t output_length);
 
-/* Whether the word is defined. Codes are 0, 1 and 2; there is no output. It goes by the word as typed: two words that are
- * normalised to the same bytes may be of two kinds. If they are of one kind, they have the same stem and as many endings. */
+/* Whether the word is defined. Codes are 0, 1 and 2; there is no output. It goes by the word as typed, without its
+ * floating marks: two words that are normalised to the same bytes may be of two kinds. If they are of one kind, they have the same stem and as many endings. */
 arabic_stemmer_kind_answer arabic_stemmer_kind(const uint8_t *word, size_t word_length);
 
 /* The version of the library and the edition whose stems it gives, as ASCII text with no zero behind it. Codes are 0

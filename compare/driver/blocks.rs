@@ -2,6 +2,7 @@
 
 use check::{hex, LONGEST, ROOM};
 use interface::*;
+use marks::unmarked;
 use snowball::algorithms::arabic_test_copy;
 
 fn call(entry: Entry, word: &[u8], out: &mut [u8]) -> Answer {
@@ -26,13 +27,17 @@ fn in_turn(u: &[u8], v: &[u8], room: usize) -> (u32, usize, Vec<u8>) {
     (0, first.count + second.count, out)
 }
 
+fn normalised(word: &str) -> String {
+    arabic_test_copy::normalised(&unmarked(word))
+}
+
 fn cut(word: &str, at: usize, room: usize) -> Result<(), String> {
     let (u, v) = word.as_bytes().split_at(at);
     if !word.is_char_boundary(at) {
         let codes = [u, v].iter().map(|part| call(arabic_stemmer_normalise, part, &mut filled()).code).collect::<Vec<_>>();
         return if codes == [2, 2] { Ok(()) } else { Err(format!("cut inside a letter, the blocks get the codes {:?}", codes)) };
     }
-    let text = arabic_test_copy::normalised(word).into_bytes();
+    let text = normalised(word).into_bytes();
     for out_len in &[ROOM, room] {
         let (code, count, out) = in_turn(u, v, *out_len);
         if text.len() > *out_len {
@@ -71,7 +76,7 @@ pub fn compare(word: &str, turn: usize) -> Result<u64, String> {
     for at in 0..word.len() + 1 {
         cut(word, at, (turn + at * 7) % (ROOM + 1)).map_err(|why| format!("cut at byte {}: {}", at, why))?;
     }
-    again("normalise", arabic_stemmer_normalise, arabic_test_copy::normalised, word)?;
+    again("normalise", arabic_stemmer_normalise, normalised, word)?;
     again("finish", arabic_stemmer_finish, arabic_test_copy::finished, word)?;
     Ok(word.len() as u64 + 3)
 }

@@ -1,6 +1,7 @@
 // Compares every entry of the library with the Rust on one word: code, count or kind, the number of endings, and every byte of the output.
 
 use interface::*;
+use marks::unmarked;
 use snowball::algorithms::{arabic, arabic_test_copy};
 use snowball::SnowballEnv;
 use std::panic::catch_unwind;
@@ -46,10 +47,16 @@ impl Fenced {
     }
 }
 
-/// What the Rust answers.
+/// What the Rust answers, given the word without its floating marks; finishing gets it as it is.
 pub enum Expected {
     Refused(u32),
     Given { defined: bool, endings: u32, texts: [String; 3] },
+}
+
+pub fn stem(word: &str) -> String {
+    let mut env = SnowballEnv::create(word);
+    arabic::stem(&mut env);
+    env.get_current().into_owned()
 }
 
 pub fn expected(word: &[u8]) -> Result<Expected, String> {
@@ -61,13 +68,12 @@ pub fn expected(word: &[u8]) -> Result<Expected, String> {
         Err(_) => return Ok(Expected::Refused(2)),
     };
     catch_unwind(|| {
-        let mut env = SnowballEnv::create(word);
-        arabic::stem(&mut env);
-        let stem = env.get_current().into_owned();
+        let finished = arabic_test_copy::finished(word);
+        let word = &unmarked(word);
         Expected::Given {
             defined: arabic_test_copy::is_defined(word),
             endings: arabic_test_copy::endings_cut(word),
-            texts: [stem, arabic_test_copy::normalised(word), arabic_test_copy::finished(word)],
+            texts: [stem(word), arabic_test_copy::normalised(word), finished],
         }
     })
     .map_err(|_| "the Rust panicked".to_string())

@@ -6,6 +6,8 @@
 mod check;
 #[path = "interface.rs"]
 mod interface;
+#[path = "marks.rs"]
+mod marks;
 #[path = "source/mod.rs"]
 mod snowball;
 

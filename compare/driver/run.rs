@@ -1,6 +1,6 @@
 // run SEED SECONDS WORDS PARTS LIST: compares the library with the Rust; compare/run builds and starts it.
-// SECONDS is the time limit of each part, WORDS the number of random words in each of the parts random and damaged, of which blocks and spellings have a tenth,
-// PARTS the parts' names parted by commas, LIST a file of words or nothing.
+// SECONDS is the time limit of each part, WORDS the number of random words in each of the parts random and damaged, of which marked has twice as many and blocks and
+// spellings have a tenth, PARTS the parts' names parted by commas, LIST a file of words or nothing.
 
 #[path = "blocks.rs"]
 mod blocks;
@@ -8,6 +8,8 @@ mod blocks;
 mod check;
 #[path = "interface.rs"]
 mod interface;
+#[path = "marks.rs"]
+mod marks;
 #[path = "source/mod.rs"]
 mod snowball;
 #[path = "random.rs"]
@@ -22,6 +24,9 @@ use std::time::{Duration, Instant};
 use words::Words;
 
 const CARRIERS: [&'static str; 3] = ["\u{643}\u{62A}\u{627}\u{628}", "\u{627}\u{644}\u{648}\u{62C}\u{647}\u{629}", "\u{641}\u{633}\u{64A}\u{62F}\u{631}\u{633}\u{648}\u{646}\u{647}\u{627}"];
+
+/// The letters that stand beside FE70 to FE7F in the part marks: of rows in front and at the end, and 062F, which is in no row.
+const MARKED: [u32; 11] = [0x623, 0x627, 0x628, 0x629, 0x62F, 0x643, 0x644, 0x646, 0x647, 0x648, 0x64A];
 
 /// How often a word of the part spellings is spelt.
 const SPELLINGS: usize = 6;
@@ -201,7 +206,7 @@ fn bytes(run: &mut Run) {
 fn lengths(run: &mut Run) {
     run.begin("lengths");
     run.checker.all_lengths = true;
-    for letter in &["a", "\u{647}", "\u{62F}", "\u{64B}", "\u{623}", "\u{FE8D}", "\u{FEFB}", "\u{FEF7}", "\u{2028}", "\u{10FFFF}", "."] {
+    for letter in &["a", "\u{647}", "\u{62F}", "\u{64B}", "\u{623}", "\u{FE8D}", "\u{FEFB}", "\u{FEF7}", "\u{FE73}", "\u{FE7F}", "\u{2028}", "\u{10FFFF}", "."] {
         for total in (240..271).chain(vec![300, 339, 340, 341, 511, 512, 513, 1000, 4095, 4096, 4097, 8000]) {
             for front in 0..5 {
                 for article in &["", "\u{627}\u{644}", "\u{641}\u{628}\u{627}\u{644}"] {
@@ -247,6 +252,28 @@ fn random(run: &mut Run, words: &mut Words, count: u64, damaged: bool) {
     run.end(&what);
 }
 
+/// Random words with letters of FE70 to FE7F put in, of which all but two are floating marks. How many have such a mark, how many of these have over 255 bytes, and
+/// how many the Rust would cut in another way if it were given the marks too, so that other letters are left beside them, is counted.
+fn marked(run: &mut Run, words: &mut Words, count: u64) {
+    run.begin("marked");
+    run.checker.all_lengths = false;
+    let (mut with, mut other, mut long) = (0u64, 0u64, 0u64);
+    for _ in 0..count {
+        let word = words.marked_word();
+        if marks::unmarked(&word) != word {
+            with += 1;
+            long += (word.len() > check::LONGEST) as u64;
+            if let Ok(Expected::Given { defined, ref texts, .. }) = check::expected(word.as_bytes()) {
+                other += (texts[0] != marks::unmarked(&check::stem(&word)) || defined != arabic_test_copy::is_defined(&word)) as u64;
+            }
+        }
+        if !run.take(word.as_bytes()) {
+            break;
+        }
+    }
+    run.end(&format!("random words with letters of FE70 to FE7F put in: {} with a floating mark, {} of these over 255 bytes, {} with another kind or other letters in the stem if the marks counted", with, long, other));
+}
+
 /// Random words cut in two at every byte, and their results handed in again; also words of ligatures, which grow past 255 bytes.
 fn in_blocks(run: &mut Run, words: &mut Words, count: u64) {
     run.begin("blocks");
@@ -276,7 +303,7 @@ fn in_spellings(run: &mut Run, words: &mut Words, count: u64) {
     let mut tried = 0;
     while tried < count && run.start.elapsed() < run.limit {
         let word = String::from_utf8(words.word()).expect("a random word is well formed");
-        let normalised = arabic_test_copy::normalised(&word);
+        let normalised = arabic_test_copy::normalised(&marks::unmarked(&word));
         let mut seen: Vec<(String, bool, u32, String)> = Vec::new();
         for turn in 0..SPELLINGS {
             let spelt = if turn == 0 { word.clone() } else { words.spelling(&normalised) };
@@ -347,13 +374,18 @@ fn main() {
             "scalars" => scalars(&mut run),
             "bytes" => bytes(&mut run),
             "lengths" => lengths(&mut run),
+            "marks" => {
+                let letters: Vec<char> = (0xFE70..0xFE80).chain(MARKED.iter().cloned()).map(words::character).collect();
+                all_words(&mut run, "marks", &letters, 5)
+            }
+            "marked" => marked(&mut run, &mut words, 2 * number(3)),
             "random" => random(&mut run, &mut words, number(3), false),
             "damaged" => random(&mut run, &mut words, number(3), true),
             "blocks" => in_blocks(&mut run, &mut words, number(3) / 10),
             "spellings" => in_spellings(&mut run, &mut words, number(3) / 10),
             "list" => list(&mut run, &a[5]),
             _ => {
-                eprintln!("no part '{}': the parts are version, lengths, bytes, random, damaged, blocks, spellings, list, scalars, forms and letters", part);
+                eprintln!("no part '{}': the parts are version, lengths, bytes, random, damaged, marks, marked, blocks, spellings, list, scalars, forms and letters", part);
                 std::process::exit(2)
             }
         }

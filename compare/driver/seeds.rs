@@ -16,7 +16,9 @@ fn main() {
         let word = if i % 4 == 0 { words.damaged() } else { words.word() };
         fs::write(format!("{}/seed{}", a[3], i), word).expect("a seed written");
     }
+    let marks: Vec<String> = (0xFE70..0xFE80).map(|n| words::character(n).to_string()).collect();
     let mut keys = snowball::algorithms::arabic_test_copy::keys().concat();
+    keys.extend(marks.iter().map(|mark| mark.as_str()));
     keys.sort();
     keys.dedup();
     let lines: Vec<String> = keys.iter().map(|k| format!("\"{}\"\n", k.bytes().map(|b| format!("\\x{:02X}", b)).collect::<String>())).collect();

@@ -5,14 +5,17 @@ use snowball::algorithms::arabic_test_copy;
 use std::collections::HashMap;
 
 /// Characters at the edges of the encoding's ranges and of the tables, most of them in no table.
-pub const FOREIGN: [u32; 31] = [
-    0, 9, 10, 0x20, 0x24, 0x41, 0x7A, 0x7F, 0x80, 0xE9, 0x3A9, 0x620, 0x653, 0x670, 0x6F0, 0x7FF, 0x800, 0xD7FF, 0xE000, 0xFB50, 0xFE70, 0xFE7F, 0xFE80, 0xFEFC, 0xFEFD, 0xFEFF,
+pub const FOREIGN: [u32; 33] = [
+    0, 9, 10, 0x20, 0x24, 0x41, 0x7A, 0x7F, 0x80, 0xE9, 0x3A9, 0x620, 0x653, 0x670, 0x6F0, 0x7FF, 0x800, 0xD7FF, 0xE000, 0xFB50, 0xFE70, 0xFE73, 0xFE75, 0xFE7F, 0xFE80, 0xFEFC, 0xFEFD, 0xFEFF,
     0xFFFF, 0x10000, 0x1F453, 0xFFFFF, 0x10FFFF,
 ];
 
+/// Some of the floating marks.
+const FLOATING: [&'static str; 5] = ["\u{FE70}", "\u{FE72}", "\u{FE74}", "\u{FE76}", "\u{FE7F}"];
+
 const CLOSE: [u32; 15] = [0x623, 0x627, 0x648, 0x641, 0x628, 0x644, 0x643, 0x633, 0x64A, 0x62A, 0x646, 0x645, 0x647, 0x649, 0x629];
 
-fn character(n: u32) -> char {
+pub fn character(n: u32) -> char {
     std::char::from_u32(n).expect("a scalar value")
 }
 
@@ -21,7 +24,7 @@ pub struct Words {
     letters: Vec<char>,
     /// Letters with the presentation forms that stand for them.
     forms: HashMap<String, Vec<&'static str>>,
-    /// The keys of A_0 that are deleted.
+    /// What leaves no letter in the normalised word: the keys of A_0 that are deleted, and floating marks.
     deleted: Vec<&'static str>,
     pub random: Random,
     /// The letters in the keys of A_1 to A_21, and U+062F, which is in none.
@@ -37,7 +40,8 @@ impl Words {
         for key in &keys[0] {
             forms.entry(arabic_test_copy::normalised(key)).or_insert(Vec::new()).push(key);
         }
-        let deleted = forms.remove("").expect("keys that are deleted");
+        let mut deleted = forms.remove("").expect("keys that are deleted");
+        deleted.extend(FLOATING.iter());
         let letters_of = |tables: &[Vec<&'static str>]| {
             let mut letters: Vec<char> = tables.iter().flat_map(|t| t.iter()).flat_map(|k| k.chars()).chain(Some('\u{62F}')).collect();
             letters.sort();
@@ -214,6 +218,17 @@ impl Words {
             word.pop();
         }
         word.into_bytes()
+    }
+
+    /// A word with one to nine letters of FE70 to FE7F put in at any places. It may be over 255 bytes.
+    pub fn marked_word(&mut self) -> String {
+        let word = String::from_utf8(self.word()).expect("a random word is well formed");
+        let mut letters: Vec<char> = word.chars().collect();
+        for _ in 0..self.random.pick(&[1, 1, 1, 2, 2, 3, 5, 9]) {
+            let at = self.random.below(letters.len() + 1);
+            letters.insert(at, character(0xFE70 + self.random.below(16) as u32));
+        }
+        letters.into_iter().collect()
     }
 
     /// A word with one to three bytes or places damaged. It may still be well-formed, and it may be over 255 bytes.

@@ -5,6 +5,7 @@ ghost use Rattle.std.specs.Prelude.{◌≡◌, ◌<◌, length};
 ghost use Rattle.definition.specs.Normal.{normalise};
 ghost use Rattle.definition.specs.Finish.{finish};
 ghost use Rattle.definition.specs.Stem.{stem};
+ghost use Rattle.definition.specs.Floating.{without_marks};
 ghost use Rattle.stemmer.specs.Entries.{enough_room, bytes_of, fitting, answer, out_after, kind_answer, Demand3After, FewEndingsOf, version, stem_entry};
 ghost use Rattle.arabic_stemmer.specs.Interface.{told, told_stem, told_kind};
 
@@ -81,23 +82,23 @@ impl From<Result<Kind, BadWord>> for KindAnswer {
     }
 }
 
-// The stem of the word, and how many endings were cut.
+// The stem of the word without its floating marks, and how many endings were cut.
 #[unsafe(no_mangle)]
 pub extern "C" fn arabic_stemmer_stem(word: &[u8], out: &mut [u8]) -> StemAnswer
     ensures value { result ≡ told_stem (stem_entry word.now (length out.old)) }
-    ensures out_after { out.new ≡ out_after (answer stem word.now (length out.old)) (bytes_of stem word.now) out.old }
-    ensures demand3after { Demand3After word.now (answer stem word.now (length out.old)) out.new }
+    ensures out_after { out.new ≡ out_after (answer (without_marks stem) word.now (length out.old)) (bytes_of (without_marks stem) word.now) out.old }
+    ensures demand3after { Demand3After word.now (answer (without_marks stem) word.now (length out.old)) out.new }
     ensures few_endings_of { FewEndingsOf word.now result.endings }
     ensures out_len_bound { result.code ≡ 3 → length out.old < enough_room }
 {
     stemmer::stem(word, out).into()
 }
 
-// The word normalised.
+// The word normalised without its floating marks.
 #[unsafe(no_mangle)]
 pub extern "C" fn arabic_stemmer_normalise(word: &[u8], out: &mut [u8]) -> Answer
-    ensures value { result ≡ told (answer normalise word.now (length out.old)) }
-    ensures out_after { out.new ≡ out_after (answer normalise word.now (length out.old)) (bytes_of normalise word.now) out.old }
+    ensures value { result ≡ told (answer (without_marks normalise) word.now (length out.old)) }
+    ensures out_after { out.new ≡ out_after (answer (without_marks normalise) word.now (length out.old)) (bytes_of (without_marks normalise) word.now) out.old }
     ensures out_len_bound { result.code ≡ 3 → length out.old < enough_room }
 {
     stemmer::normalise(word, out).into()
@@ -113,7 +114,7 @@ pub extern "C" fn arabic_stemmer_finish(word: &[u8], out: &mut [u8]) -> Answer
     stemmer::finish(word, out).into()
 }
 
-// The kind of the word.
+// The kind of the word without its floating marks.
 #[unsafe(no_mangle)]
 pub extern "C" fn arabic_stemmer_kind(word: &[u8]) -> KindAnswer
     ensures { result ≡ told_kind (kind_answer word.now) }

@@ -167,6 +167,11 @@ fn ligatures() -> [u8; LONGEST] {
     array::from_fn(|i| "\u{FEFB}".as_bytes()[i % 3])
 }
 
+// N bytes of a row of U+FE7F.
+fn marks<const N: usize>() -> [u8; N] {
+    array::from_fn(|i| "\u{FE7F}".as_bytes()[i % 3])
+}
+
 // Words over 255 bytes.
 fn too_long(output: &mut impl Write) -> io::Result<()> {
     let latin = [b'a'; LONGEST + 1];
@@ -373,6 +378,72 @@ fn endings(output: &mut impl Write) -> io::Result<()> {
     )
 }
 
+// A word with a floating mark: 0627 FE7F 0644 0648 062C 0647, which without it is defined. Finishing keeps the mark.
+fn marked(output: &mut impl Write, word: &[u8]) -> io::Result<()> {
+    stem(output, "stem, a mark in the article: ", word, Lent::new(8))?;
+    stem(
+        output,
+        "stem, a mark in the article, room for 5: ",
+        word,
+        Lent::new(5),
+    )?;
+    stem_part(output, "part, a mark in the article: ", word, Lent::new(8))?;
+    normalise(
+        output,
+        "normalise, a mark in the article: ",
+        word,
+        Lent::new(12),
+    )?;
+    normalise(
+        output,
+        "normalise, a mark in the article, room for 9: ",
+        word,
+        Lent::new(9),
+    )?;
+    finish(
+        output,
+        "finish, a mark in the article: ",
+        word,
+        Lent::new(16),
+    )?;
+    kind(output, "kind, a mark in the article: ", word)
+}
+
+// Each letter of FE70 to FE7F in a word: FE73 and FE75 are no marks.
+fn near_marks(output: &mut impl Write) -> io::Result<()> {
+    for end in 0x70..=0x7Fu8 {
+        write!(output, "stem, 0645 0644 FE{end:02X} 0643")?;
+        stem(
+            output,
+            ": ",
+            &[0xD9, 0x85, 0xD9, 0x84, 0xEF, 0xB9, end + 0x40, 0xD9, 0x83],
+            Lent::new(8),
+        )?;
+    }
+    Ok(())
+}
+
+// Marks alone: 85 have 255 bytes.
+fn marks_alone(output: &mut impl Write) -> io::Result<()> {
+    let marks = marks::<LONGEST>();
+    stem(output, "stem, 85 marks, no room: ", &marks, Lent::new(0))?;
+    stem(output, "stem, 85 marks: ", &marks, Lent::new(4))?;
+    stem_part(output, "part, 85 marks: ", &marks, Lent::new(4))?;
+    normalise(output, "normalise, 85 marks: ", &marks, Lent::new(4))?;
+    finish(output, "finish, 85 marks: ", &marks, Lent::new(LONGEST))?;
+    kind(output, "kind, 85 marks: ", &marks)
+}
+
+// The 255 bytes are counted with the marks.
+fn too_long_with_marks(output: &mut impl Write) -> io::Result<()> {
+    let marks = marks::<258>();
+    stem(output, "stem, 86 marks: ", &marks, Lent::new(4))?;
+    stem_part(output, "part, 86 marks: ", &marks, Lent::new(4))?;
+    normalise(output, "normalise, 86 marks: ", &marks, Lent::new(4))?;
+    finish(output, "finish, 86 marks: ", &marks, Lent::new(LONGEST))?;
+    kind(output, "kind, 86 marks: ", &marks)
+}
+
 fn main(rt: HostRuntime) -> io::Result<()> {
     let book = b"\xD8\xA7\xD9\x84\xD9\x83\xD8\xAA\xD8\xA7\xD8\xA8";
     let mut output = rt.stdout();
@@ -385,5 +456,12 @@ fn main(rt: HostRuntime) -> io::Result<()> {
     long_parts(&mut output)?;
     empty(&mut output)?;
     empty_parts(&mut output)?;
-    endings(&mut output)
+    endings(&mut output)?;
+    marked(
+        &mut output,
+        b"\xD8\xA7\xEF\xB9\xBF\xD9\x84\xD9\x88\xD8\xAC\xD9\x87",
+    )?;
+    near_marks(&mut output)?;
+    marks_alone(&mut output)?;
+    too_long_with_marks(&mut output)
 }

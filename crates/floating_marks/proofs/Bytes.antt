@@ -1,10 +1,10 @@
--- The floating marks as ranges of letters, and their first byte. Assumes nothing.
+-- The floating marks as ranges of letters, and the two bytes with which each begins. Assumes nothing.
 use mathlib.Core.Path.{◌≡◌, sym}
 use mathlib.Core.Bool.{true, false}
-use mathlib.Core.List.{List, ◌++◌}
-use Prim.Native.Nat.{ℕ, ◌≤◌}
+use mathlib.Core.List.{List, [], ◌∷◌, ◌++◌}
+use Prim.Native.Nat.{ℕ, ◌+◌, ◌/◌, ◌%◌, ◌≤◌, ◌<◌}
 use native.Mathlib.Omega.{arith}
-use lib.ListN.{get_or}
+use lib.ListN.{length, get_or}
 use Rattle.definition.specs.Floating.{floating, FloatingRanges}
 use Rattle.definition.proofs.Match.{by}
 use Rattle.definition.proofs.Main.{main_floating}
@@ -17,10 +17,19 @@ marked c r = sym ((main_floating c).1 r)
 pub not_marked : (c : ℕ) → (FloatingRanges c → ⊥) → false ≡ floating c
 not_marked c n = by (floating c) (λ f. absurd (n ((main_floating c).0 f))) sym
 
--- a mark's first byte is EF
-pub mark_first : (c : ℕ) (bs : List ℕ) → floating c ≡ true → get_or (encode1 c ++ bs) 0 0 ≡ 0xEF
-mark_first c bs f =
-    let r = (main_floating c).0 f in
-    let low : 0xFE70 ≤ c = omega arith in
-    let high : c ≤ 0xFE7F = omega arith in
-    rw (encode1_3 c (omega arith) (omega arith)) (omega arith)
+-- with b at its place i every mark is encoded
+abbrev pub InMarks : ℕ → ℕ → Type 0
+InMarks b i = (c : ℕ) (bs : List ℕ) → floating c ≡ true → (i < length (encode1 c ++ bs)) × (get_or (encode1 c ++ bs) i 0 ≡ b)
+
+module _ (c : ℕ) (f : floating c ≡ true) where
+  within : (0xFE70 ≤ c) × (c ≤ 0xFE7F)
+  within = let r = (main_floating c).0 f in (omega arith, omega arith)
+
+  three : encode1 c ≡ (0xE0 + c / 4096) ∷ (0x80 + c / 64 % 64) ∷ (0x80 + c % 64) ∷ []
+  three = encode1_3 c (omega (arith, within)) (omega (arith, within))
+
+pub first_in_marks : InMarks 0xEF 0
+first_in_marks c bs f = rw (three c f) (omega arith, omega (arith, within c f))
+
+pub second_in_marks : InMarks 0xB9 1
+second_in_marks c bs f = let q : c / 64 ≡ 0x3F9 = omega (arith, within c f) in rw (three c f) (omega arith, omega (arith, q))

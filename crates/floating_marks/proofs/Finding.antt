@@ -1,4 +1,4 @@
--- The search for a mark, letter by letter, and a word in which no letter begins with EF. Assumes nothing.
+-- The search for a mark, letter by letter, and a word without a byte that every mark has. Assumes nothing.
 use mathlib.Core.Path.{◌≡◌, refl, sym, ap, ◌∙◌, subst}
 use mathlib.Core.Bool.{Bool, true, false, not}
 use mathlib.Core.List.{List, [], ◌∷◌}
@@ -13,10 +13,9 @@ use Rattle.utf8.specs.Utf8.{Scalars, encode1, encode}
 use Rattle.utf8.specs.Letters.{Read}
 use Rattle.utf8.specs.Spelt.{Encodes, Spelt}
 use Rattle.utf8.specs.declared.letters.Letter.{Letter}
-use Rattle.utf8.proofs.Text.{encode1_pos}
 use Rattle.utf8.proofs.Ahead as ahead
 use Rattle.utf8.proofs.Ahead.{Ahead, Next}
-use Rattle.floating_marks.proofs.Bytes.{mark_first}
+use Rattle.floating_marks.proofs.Bytes.{InMarks}
 
 -- The search's invariant: the word has a mark if the letters from i on have one.
 pub record Inv (text : List ℕ) (i : ℕ) : Type 0 where
@@ -55,19 +54,19 @@ module _ {text : List ℕ} {i : ℕ} (v : Inv text i) where
         same = by_letter ∙ ap (λ (x : Bool). both (not x) (no_mark next.t)) e;
       }
 
--- ---- a word with no byte EF has no mark
+-- ---- a word without a byte b that every mark has at a place i has no mark
+module _ (b i : ℕ) (in_marks : InMarks b i) where
+  abbrev Without : List ℕ → Type 0
+  Without bytes = (k : ℕ) → k < length bytes → get_or bytes k 0 ≡ b → ⊥
 
-abbrev NoEF : List ℕ → Type 0
-NoEF bytes = (k : ℕ) → k < length bytes → get_or bytes k 0 ≡ 0xEF → ⊥
+  without : (cs : Word) → Scalars cs → Without (encode cs) → no_mark cs ≡ true
+  unfolding encode
+  without [] s n = refl
+  without (c ∷ t) s n =
+      let z = length-append (encode1 c) (encode t) in
+      let e : floating c ≡ false = by (floating c) (λ f. let m = in_marks c (encode t) f in absurd (n i m.0 m.1)) (λ f. f) in
+      let r : Without (encode t) = λ k h q. n (length (encode1 c) + k) (omega (arith, z)) (get_or-append-add (encode1 c) (encode t) k 0 ∙ q) in
+      ap (λ (x : Bool). both (not x) (no_mark t)) e ∙ without t s.1 r
 
-without_EF : (cs : Word) → Scalars cs → NoEF (encode cs) → no_mark cs ≡ true
-unfolding encode
-without_EF [] s n = refl
-without_EF (c ∷ t) s n =
-    let z = length-append (encode1 c) (encode t) in
-    let e : floating c ≡ false = by (floating c) (λ f. absurd (n 0 (omega (arith, encode1_pos c, z)) (mark_first c (encode t) f))) (λ f. f) in
-    let r : NoEF (encode t) = λ k h q. n (length (encode1 c) + k) (omega (arith, z)) (get_or-append-add (encode1 c) (encode t) k 0 ∙ q) in
-    ap (λ (b : Bool). both (not b) (no_mark t)) e ∙ without_EF t s.1 r
-
-pub no_first : (text : List ℕ) → NoEF text → (b : Bool) → b ≡ false → (cs : Word) → Encodes text cs → b ≡ not (no_mark cs)
-no_first text f b e cs t = e ∙ sym (ap not (without_EF cs t.0 (subst NoEF t.1 f)))
+  pub none_without : (text : List ℕ) → Without text → (found : Bool) → found ≡ false → (cs : Word) → Encodes text cs → found ≡ not (no_mark cs)
+  none_without text f found e cs t = e ∙ sym (ap not (without cs t.0 (subst Without t.1 f)))

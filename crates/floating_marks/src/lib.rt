@@ -33,12 +33,12 @@ fn search_mark(word: &[u8]) -> bool
     false
 }
 
-// The same, at next to no cost for a word with no byte EF, with which every mark begins.
+// The same, at next to no cost for a word in which one of the bytes EF and B9 does not occur: with these two every mark begins.
 pub fn has_mark(word: &[u8]) -> bool
     requires { Spelt word.now }
     ensures { (cs : Word) → Encodes word.now cs → result ≡ not (no_mark cs) }
 {
-    word.contains(&0xEF) && search_mark(word)
+    word.contains(&0xEF) && word.contains(&0xB9) && search_mark(word)
 }
 
 // Copies the word without its floating marks to the front of out. The answer is the number of bytes written.

@@ -10,6 +10,7 @@ use lib.Seq.{take_all, length-take-le}
 use borrow.Author.Tests.{ne_eqb}
 use Rattle.definition.specs.Words.{pick}
 use Rattle.definition.specs.Stem.{stem}
+use Rattle.definition.specs.Floating.{without_marks}
 use Rattle.definition.proofs.Match.{by_le}
 use Rattle.std.specs.Prelude.{Result, Ok, Err}
 use Rattle.stemmer.specs.declared.outcome.BadWord.{BadWord}
@@ -56,7 +57,7 @@ line_most w = of (stem_answer w stem_room) refl
 
 -- an overlong line is answered by `?1`
 pub line_long : (w : List ℕ) → most_bytes < length w → answer_line w ≡ refusal 1 ++ line_feed ∷ []
-line_long w h = line_refused w (Bad TooLong) (over_long stem w stem_room h)
+line_long w h = line_refused w (Bad TooLong) (over_long (without_marks stem) w stem_room h)
 
 -- so the bytes that are kept of a line have its answer
 pub line_kept : (w : List ℕ) → answer_line (take kept_bytes w) ≡ answer_line w

@@ -9,8 +9,9 @@ use Rattle.definition.specs.Words.{Word}
 use Rattle.definition.specs.Tables.{A_0}
 use Rattle.definition.specs.Search.{row_at}
 use Rattle.definition.specs.Stem.{stem}
+use Rattle.definition.specs.Floating.{without_marks}
 use Rattle.definition.specs.Demand3.{Plain, AllOf}
-use Rattle.definition.proofs.Main.{main_demand3}
+use Rattle.definition.proofs.Main.{main_unmarked_demand3}
 use Rattle.definition.proofs.Match.{by}
 use Rattle.utf8.specs.Utf8.{encode1, encode}
 use Rattle.stemmer.specs.Entries.{letters, bytes_of, stem_bytes}
@@ -44,4 +45,4 @@ free_word (c ∷ w) p = free_append (encode1 c) (encode w) (free_letter c (plain
 
 pub no_question : (w : List ℕ) → Without question_mark (stem_bytes w)
 unfolding bytes_of
-no_question w = free_word (stem (letters w)) (main_demand3 (letters w)).plain
+no_question w = free_word (without_marks stem (letters w)) (main_unmarked_demand3 (letters w)).plain

@@ -14,10 +14,12 @@ use Rattle.definition.specs.Search.{row_at}
 use Rattle.definition.specs.Normal.{normalise}
 use Rattle.definition.specs.Fronts.{Applied}
 use Rattle.definition.specs.Stem.{stem, front, head_letter, run, back}
+use Rattle.definition.specs.Floating.{unmarked, without_marks}
 use Rattle.definition.specs.Demand3.{Change, last_hamza, other_alef, other_waw, other_yeh, last_yeh, fourth_alef, stays, HeadOf, no_head, one_head, Demand3}
-use Rattle.definition.proofs.Main.{main_demand3}
+use Rattle.definition.proofs.Main.{main_unmarked_demand3}
 use Rattle.utf8.specs.Utf8.{encode1, encode}
 use Rattle.utf8.proofs.Text.{encode-append}
+use Rattle.floating_marks.proofs.Sizes.{unmarked-size}
 use Rattle.arabic.proofs.Main.{main_fits}
 use Rattle.std.specs.Prelude.{Result, Ok, Err}
 use Rattle.stemmer.specs.declared.outcome.BadWord.{BadWord}
@@ -101,7 +103,8 @@ unfolding bytes_of
 stem-fits w e =
     let size : length (encode (letters w)) ≡ length w = ap length (sym (spelling w e)) in
     let few = short w e in
-    omega (arith, stem-size (letters w) (stem (letters w)) (main_demand3 (letters w)), main_fits (letters w) (omega arith))
+    let fewer = unmarked-size (letters w) in
+    omega (arith, stem-size (unmarked (letters w)) (without_marks stem (letters w)) (main_unmarked_demand3 (letters w)), main_fits (unmarked (letters w)) (omega arith))
 
 no_three : (k : Result (Unit {0}) BadWord) (d : Bool) (m : ℕ) → (k ≡ Ok tt → d ≡ false) → code_of (after_checks k (pick d (Err NoRoom) (Ok m))) ≡ 3 → ⊥
 no_three (Err TooLong) d m f z = omega arith

@@ -16,8 +16,9 @@ use Rattle.utf8.proofs.Main.{main_decodes, main_text}
 use Rattle.definition.specs.Words.{Word, pick}
 use Rattle.definition.specs.Kind.{kind}
 use Rattle.definition.specs.Stem.{stem, chain}
+use Rattle.definition.specs.Floating.{unmarked, without_marks}
 use Rattle.definition.specs.Number.{FewEndings}
-use Rattle.definition.proofs.Main.{main_demand3, main_number}
+use Rattle.definition.proofs.Main.{main_unmarked_demand3, main_number}
 use Rattle.definition.proofs.Number.{none_few}
 use Rattle.definition.proofs.Match.{by}
 use Rattle.snowball.specs.Chars.{started}
@@ -28,7 +29,7 @@ use Rattle.stemmer.specs.declared.outcome.BadWord.{BadWord}
 use Rattle.stemmer.specs.declared.outcome.BadWord.TheVariants.{TooLong, NotWellFormed}
 use Rattle.stemmer.specs.declared.outcome.Refusal.{Refusal}
 use Rattle.stemmer.specs.declared.outcome.Refusal.TheVariants.{Bad, NoRoom}
-use Rattle.stemmer.specs.Entries.{Answer, refusal_code, code_of, count_of, endings_of, most_bytes, enough_room, letters, bytes_of, checked, after_checks, fitting, answer, out_after, part_after, with_endings, without_endings, kind_after, kind_answer, Demand3After, FewEndingsOf, stem_entry}
+use Rattle.stemmer.specs.Entries.{Answer, refusal_code, code_of, count_of, endings_of, most_bytes, enough_room, letters, bytes_of, checked, after_checks, fitting, answer, out_after, part_after, with_endings, without_endings, kind_after, kind_answer, Demand3After, FewEndingsOf, stem_bytes, stem_answer, stem_entry}
 
 -- ---- checking: a word that is too long, and one that is accepted
 module _ (word : List ℕ) where
@@ -93,6 +94,11 @@ pub after : (f : Word → Word) (word : List ℕ) (room : ℕ) (c : Result (Unit
 unfolding answer
 after f word room c e = ap (λ (x : Result (Unit {0}) BadWord). after_checks x (fitting (length (bytes_of f word)) room)) e
 
+-- two words that are accepted, and of which f makes the same
+pub same_answer : (f : Word → Word) (u v : List ℕ) → checked u ≡ Ok tt → checked v ≡ Ok tt → bytes_of f u ≡ bytes_of f v → (room : ℕ) → answer f u room ≡ answer f v room
+unfolding answer
+same_answer f u v d e b room = λ i. after_checks ((d ∙ sym e) i) (fitting (length (b i)) room)
+
 pub over_long : (f : Word → Word) (word : List ℕ) (room : ℕ) → most_bytes < length word → answer f word room ≡ Err (Bad TooLong)
 over_long f word room h = after f word room (Err TooLong) (too_long word h)
 
@@ -118,12 +124,12 @@ module _ (f : Word → Word) (word old : List ℕ) where
   out_by : (a : Answer) → a ≡ answer f word (length old) → out_after a (bytes_of f word) old ≡ out_after (answer f word (length old)) (bytes_of f word) old
   out_by a e = ap (λ (x : Answer). out_after x (bytes_of f word) old) e
 
-  pub refused : (e : BadWord) → checked word ≡ Err e → (r : Answer) → IsErrAnd r (λ (x : Refusal). x ≡ Bad e) → Promised r old
+  pub refused : (e : BadWord) → Err e ≡ checked word → (r : Answer) → IsErrAnd r (λ (x : Refusal). x ≡ Bad e) → Promised r old
   unfolding out_after
   refused e c r h =
       let p = err_from_is_err_and r h in
       let is : r ≡ Err (Bad e) = p.1 ∙ ap Err p.2 in
-      let q : Err (Bad e) ≡ answer f word (length old) = sym (after f word (length old) (Err e) c) in
+      let q : Err (Bad e) ≡ answer f word (length old) = sym (after f word (length old) (Err e) (sym c)) in
       record {
         value = is ∙ q;
         out_after = out_by (Err (Bad e)) q;
@@ -131,13 +137,13 @@ module _ (f : Word → Word) (word old : List ℕ) where
       }
 
   -- the text of an environment that stands for what f makes of the word's letters, delivered
-  pub delivered : checked word ≡ Ok tt → (v : Env) → Stands v (started (f (letters word))) → (text : List ℕ) → text ≡ take v.limit v.current → (r : Answer) (new : List ℕ)
+  pub delivered : Ok tt ≡ checked word → (v : Env) → Stands v (started (f (letters word))) → (text : List ℕ) → text ≡ take v.limit v.current → (r : Answer) (new : List ℕ)
       → r ≡ fitting (length text) (length old) → new ≡ out_after r text old → Promised r new
   unfolding bytes_of
   delivered c v st text t r new a o =
       let b : text ≡ bytes_of f word = t ∙ st.bytes in
       let fits : r ≡ fitting (length (bytes_of f word)) (length old) = a ∙ ap (λ (bs : List ℕ). fitting (length bs) (length old)) b in
-      let q : r ≡ answer f word (length old) = fits ∙ sym (after f word (length old) (Ok tt) c) in
+      let q : r ≡ answer f word (length old) = fits ∙ sym (after f word (length old) (Ok tt) (sym c)) in
       record {
         value = q;
         out_after = o ∙ ap (λ (bs : List ℕ). out_after r bs old) b ∙ out_by r q;
@@ -161,11 +167,11 @@ module _ (f : Word → Word) (word : List ℕ) (room n : ℕ) (e : answer f word
   count_fits : n ≤ room
   count_fits = omega (arith, ltb-false room (length (bytes_of f word)) both-said.0, count_is)
 
-pub done_count : (word : List ℕ) (room n : ℕ) → answer stem word room ≡ Ok n → length (bytes_of stem word) ≡ n
-done_count = count_is stem
+pub done_count : (word : List ℕ) (room n : ℕ) → stem_answer word room ≡ Ok n → length (stem_bytes word) ≡ n
+done_count = count_is (without_marks stem)
 
-pub done-fits : (word : List ℕ) (room n : ℕ) → answer stem word room ≡ Ok n → n ≤ room
-done-fits = count_fits stem
+pub done-fits : (word : List ℕ) (room n : ℕ) → stem_answer word room ≡ Ok n → n ≤ room
+done-fits = count_fits (without_marks stem)
 
 -- ---- the output
 
@@ -177,27 +183,27 @@ front f word old (Ok n) e z = take_at (bytes_of f word) (drop n old) n (count_is
 front f word old (Err x) e z = absurd (refused_code x z)
 
 -- demand 3, from the other promises of the stem entry
-owed : (word old new : List ℕ) (a : Answer) → Promised stem word old a new → Demand3After word a new
+owed : (word old new : List ℕ) (a : Answer) → Promised (without_marks stem) word old a new → Demand3After word a new
 unfolding bytes_of
 owed word old new a p = λ w d z. (
-  stem w,
+  without_marks stem w,
   (
-    ap (take (count_of a)) (p.out_after ∙ sym (out_by stem word old a p.value)) ∙ front stem word old a p.value z
-        ∙ ap (λ (x : Word). encode (stem x)) (letters_are word w d),
-    main_demand3 w,
+    ap (take (count_of a)) (p.out_after ∙ sym (out_by (without_marks stem) word old a p.value)) ∙ front (without_marks stem) word old a p.value z
+        ∙ ap (λ (x : Word). encode (without_marks stem x)) (letters_are word w d),
+    main_unmarked_demand3 w,
   ),
 )
 
 -- ---- the number of endings
 abbrev pub number : List ℕ → ℕ
-number word = length (chain (letters word))
+number word = length (without_marks chain (letters word))
 
 with_answer : (a : Answer) (m : ℕ) → without_endings (with_endings a m) ≡ a
 with_answer (Ok n) m = refl
 with_answer (Err e) m = refl
 
-pub entry_answer : (word : List ℕ) (room : ℕ) → without_endings (stem_entry word room) ≡ answer stem word room
-entry_answer word room = with_answer (answer stem word room) (number word)
+pub entry_answer : (word : List ℕ) (room : ℕ) → without_endings (stem_entry word room) ≡ stem_answer word room
+entry_answer word room = with_answer (stem_answer word room) (number word)
 
 -- it matters with code 0 alone
 pub with_same : (a : Answer) (m n : ℕ) → (code_of a ≡ 0 → m ≡ n) → with_endings a m ≡ with_endings a n
@@ -218,22 +224,22 @@ module _ (word old : List ℕ) where
   abbrev pub StemPromised : Result Stem Refusal → List ℕ → Type 0
   StemPromised r new = record {
     value : r ≡ stem_entry word (length old);
-    out_after : new ≡ out_after (answer stem word (length old)) (bytes_of stem word) old;
+    out_after : new ≡ out_after (stem_answer word (length old)) (stem_bytes word) old;
     demand3after : Demand3After word (without_endings r) new;
     few_endings_of : FewEndingsOf word (endings_of r);
     out_len_bound : code_of r ≡ 3 → length old < enough_room;
   }
 
-  pub numbered : (a : Answer) (new : List ℕ) → Promised stem word old a new → (r : Result Stem Refusal) → r ≡ with_endings a (number word) → StemPromised r new
+  pub numbered : (a : Answer) (new : List ℕ) → Promised (without_marks stem) word old a new → (r : Result Stem Refusal) → r ≡ with_endings a (number word) → StemPromised r new
   numbered a new p r is =
       let same : r ≡ stem_entry word (length old) = is ∙ ap (λ (x : Answer). with_endings x (number word)) p.value in
       record {
         value = same;
         out_after = p.out_after;
         demand3after = subst (λ (x : Answer). Demand3After word x new) (sym (ap without_endings is ∙ with_answer a (number word))) (owed word old new a p);
-        few_endings_of = λ w d. subst (λ (x : Result Stem Refusal). FewEndings w (endings_of x))
-            (ap (λ (x : Word). with_endings (answer stem word (length old)) (length (chain x))) (sym (letters_are word w d)) ∙ sym same)
-            (with_few (answer stem word (length old)) (length (chain w)) w (main_number w));
+        few_endings_of = λ w d. subst (λ (x : Result Stem Refusal). without_marks FewEndings w (endings_of x))
+            (ap (λ (x : Word). with_endings (stem_answer word (length old)) (length (without_marks chain x))) (sym (letters_are word w d)) ∙ sym same)
+            (with_few (stem_answer word (length old)) (length (without_marks chain w)) (unmarked w) (main_number (unmarked w)));
         out_len_bound = λ z. p.out_len_bound (sym (ap (code_of {A = Stem}) is ∙ with_code a (number word)) ∙ z);
       }
 
@@ -255,6 +261,6 @@ module _ (f : Word → Word) (word old : List ℕ) where
   part_is = parted (answer f word (length old)) refl
 
 -- ---- the kind
-pub kind-after : (word : List ℕ) (c : Result (Unit {0}) BadWord) → checked word ≡ c → kind_after c (kind (letters word)) ≡ kind_answer word
+pub kind-after : (word : List ℕ) (c : Result (Unit {0}) BadWord) → checked word ≡ c → kind_after c (without_marks kind (letters word)) ≡ kind_answer word
 unfolding kind_answer
-kind-after word c e = sym (ap (λ (x : Result (Unit {0}) BadWord). kind_after x (kind (letters word))) e)
+kind-after word c e = sym (ap (λ (x : Result (Unit {0}) BadWord). kind_after x (without_marks kind (letters word))) e)

@@ -18,8 +18,10 @@ use Rattle.definition.specs.Tables.{A_0}
 use Rattle.definition.specs.Search.{longer, longest}
 use Rattle.definition.specs.Normal.{gives, listed_for, given, normal, normalise}
 use Rattle.definition.specs.Finish.{last, other, finish}
-use Rattle.definition.proofs.Main.{main_normalise_joined, main_normalise_twice, main_finish_twice}
+use Rattle.definition.specs.Floating.{floating_marks, floating, unmarked, without_marks}
+use Rattle.definition.proofs.Main.{main_unmarked_normalise_joined, main_unmarked_normalise_twice, main_finish_twice}
 use Rattle.definition.proofs.Match.{both_0, both_1, by}
+use Rattle.floating_marks.proofs.Sizes.{unmarked-scalars, unmarked-size}
 use Rattle.arabic.proofs.Main.{main_grows, main_size}
 use Rattle.arabic.proofs.Gives.{normalise-scalars}
 use Rattle.arabic.proofs.Changes.{finish-scalars}
@@ -27,7 +29,11 @@ use Rattle.stemmer.specs.declared.outcome.BadWord.TheVariants.{TooLong}
 use Rattle.stemmer.specs.declared.outcome.Refusal.TheVariants.{Bad, NoRoom}
 use Rattle.stemmer.specs.Entries.{most_bytes, enough_room, code_of, letters, bytes_of, checked, fitting, answer, out_after}
 use Rattle.stemmer.specs.Blocks.{out_of, written, behind, in_turn, Joins, Again, ligatures, alef_block, beh_block}
-use Rattle.stemmer.proofs.Answers.{accepted, letters-encoded, formed-scalars, formed_spelling, short, formed, spelling, after}
+use Rattle.stemmer.proofs.Answers.{accepted, letters-encoded, formed-scalars, formed_spelling, short, formed, spelling, after, same_answer}
+
+-- what the normalise entry makes of a word's letters
+abbrev pub normalised : Word → Word
+normalised = without_marks normalise
 
 -- ---- two well-formed words joined
 module _ (u v : List ℕ) (a : well_formed u ≡ true) (b : well_formed v ≡ true) where
@@ -43,12 +49,12 @@ module _ (u v : List ℕ) (a : well_formed u ≡ true) (b : well_formed v ≡ tr
   joined-letters : letters (u ++ v) ≡ letters u ++ letters v
   joined-letters = ap letters joined_spelling ∙ letters-encoded (letters u ++ letters v) both-scalars
 
-  pub joined_bytes : bytes_of normalise (u ++ v) ≡ bytes_of normalise u ++ bytes_of normalise v
+  pub joined_bytes : bytes_of normalised (u ++ v) ≡ bytes_of normalised u ++ bytes_of normalised v
   unfolding bytes_of
   joined_bytes =
-      ap (λ (w : Word). encode (normalise w)) joined-letters
-      ∙ ap encode (main_normalise_joined (letters u) (letters v))
-      ∙ encode-append (normalise (letters u)) (normalise (letters v))
+      ap (λ (w : Word). encode (normalised w)) joined-letters
+      ∙ ap encode (main_unmarked_normalise_joined (letters u) (letters v))
+      ∙ encode-append (normalised (letters u)) (normalised (letters v))
 
 -- ---- two answers in turn
 
@@ -88,7 +94,7 @@ module _ (f : Word → Word) (word : List ℕ) (e : checked word ≡ Ok tt) wher
   done room h = fitted room ∙ fits size room h
 
   module _ (old : List ℕ) (h : size ≤ length old) where
-    out-done : out_of f word old ≡ bytes_of f word ++ drop size old
+    pub out-done : out_of f word old ≡ bytes_of f word ++ drop size old
     unfolding out_after
     out-done = rw (done (length old) h) refl
 
@@ -103,10 +109,10 @@ module _ (f : Word → Word) (word : List ℕ) (e : checked word ≡ Ok tt) wher
 -- ---- the law of two words joined
 module _ (u v : List ℕ) (a : well_formed u ≡ true) (b : well_formed v ≡ true) (h : length u + length v ≤ most_bytes) where
   abbrev m : ℕ
-  m = length (bytes_of normalise u)
+  m = length (bytes_of normalised u)
 
   abbrev n : ℕ
-  n = length (bytes_of normalise v)
+  n = length (bytes_of normalised v)
 
   first-accepted : checked u ≡ Ok tt
   first-accepted = accepted u (omega arith) a
@@ -117,31 +123,31 @@ module _ (u v : List ℕ) (a : well_formed u ≡ true) (b : well_formed v ≡ tr
   joined-accepted : checked (u ++ v) ≡ Ok tt
   joined-accepted = accepted (u ++ v) (omega (arith, length-append u v)) (joined-formed u v a b)
 
-  joined-size : length (bytes_of normalise (u ++ v)) ≡ m + n
-  joined-size = ap length (joined_bytes u v a b) ∙ length-append (bytes_of normalise u) (bytes_of normalise v)
+  joined-size : length (bytes_of normalised (u ++ v)) ≡ m + n
+  joined-size = ap length (joined_bytes u v a b) ∙ length-append (bytes_of normalised u) (bytes_of normalised v)
 
-  joined_fitted : (room : ℕ) → answer normalise (u ++ v) room ≡ fitting (m + n) room
-  joined_fitted room = fitted normalise (u ++ v) joined-accepted room ∙ ap (λ (k : ℕ). fitting k room) joined-size
+  joined_fitted : (room : ℕ) → answer normalised (u ++ v) room ≡ fitting (m + n) room
+  joined_fitted room = fitted normalised (u ++ v) joined-accepted room ∙ ap (λ (k : ℕ). fitting k room) joined-size
 
-  joined-answers : (room : ℕ) → answer normalise (u ++ v) room ≡ in_turn (answer normalise u room) (λ (k : ℕ). answer normalise v (room - k))
+  joined-answers : (room : ℕ) → answer normalised (u ++ v) room ≡ in_turn (answer normalised u room) (λ (k : ℕ). answer normalised v (room - k))
   joined-answers room =
       joined_fitted room ∙ fitting_in_turn m n room
-      ∙ (λ i. in_turn (sym (fitted normalise u first-accepted room) i) (λ (k : ℕ). sym (fitted normalise v second-accepted (room - k)) i))
+      ∙ (λ i. in_turn (sym (fitted normalised u first-accepted room) i) (λ (k : ℕ). sym (fitted normalised v second-accepted (room - k)) i))
 
-  joined-outputs : (old : List ℕ) → code_of (answer normalise (u ++ v) (length old)) ≡ 0
-      → out_of normalise (u ++ v) old ≡ written normalise u old ++ out_of normalise v (behind normalise u old)
+  joined-outputs : (old : List ℕ) → code_of (answer normalised (u ++ v) (length old)) ≡ 0
+      → out_of normalised (u ++ v) old ≡ written normalised u old ++ out_of normalised v (behind normalised u old)
   joined-outputs old z =
       let k : m + n ≤ length old = room_for (m + n) (length old) (ap code_of (sym (joined_fitted (length old))) ∙ z) in
-      let x : List ℕ = bytes_of normalise u in
-      let y : List ℕ = bytes_of normalise v in
-      out-done normalise (u ++ v) joined-accepted old (omega (arith, joined-size))
+      let x : List ℕ = bytes_of normalised u in
+      let y : List ℕ = bytes_of normalised v in
+      out-done normalised (u ++ v) joined-accepted old (omega (arith, joined-size))
       ∙ (λ i. joined_bytes u v a b i ++ drop (joined-size i) old)
       ∙ append_assoc x y (drop (m + n) old)
       ∙ ap (λ (r : List ℕ). x ++ (y ++ r)) (sym (drop-drop n m old))
-      ∙ ap (λ (r : List ℕ). x ++ r) (sym (out-done normalise v second-accepted (drop m old) (omega (arith, length-drop m old))))
-      ∙ (λ i. sym (written-done normalise u first-accepted old (omega arith)) i ++ out_of normalise v (sym (behind-done normalise u first-accepted old (omega arith)) i))
+      ∙ ap (λ (r : List ℕ). x ++ r) (sym (out-done normalised v second-accepted (drop m old) (omega (arith, length-drop m old))))
+      ∙ (λ i. sym (written-done normalised u first-accepted old (omega arith)) i ++ out_of normalised v (sym (behind-done normalised u first-accepted old (omega arith)) i))
 
-  pub joins : Joins normalise u v
+  pub joins : Joins normalised u v
   joins = record {
     formed = joined-formed u v a b;
     accepted = joined-accepted;
@@ -151,17 +157,17 @@ module _ (u v : List ℕ) (a : well_formed u ≡ true) (b : well_formed v ≡ tr
   }
 
 -- ---- any number of blocks
-pub blocks : (bs : List (List ℕ)) → every well_formed bs ≡ true → (well_formed (flatten bs) ≡ true) × (bytes_of normalise (flatten bs) ≡ flatten (map (bytes_of normalise) bs))
-unfolding bytes_of letters normalise encode run flatten
+pub blocks : (bs : List (List ℕ)) → every well_formed bs ≡ true → (well_formed (flatten bs) ≡ true) × (bytes_of normalised (flatten bs) ≡ flatten (map (bytes_of normalised) bs))
+unfolding bytes_of letters unmarked normalise encode run flatten
 blocks [] e = (refl, refl)
 blocks (b ∷ bs) e =
     let f : well_formed b ≡ true = both_0 (well_formed b) (every well_formed bs) e in
     let r = blocks bs (both_1 (well_formed b) (every well_formed bs) e) in
-    (joined-formed b (flatten bs) f r.0, joined_bytes b (flatten bs) f r.0 ∙ ap (λ (x : List ℕ). bytes_of normalise b ++ x) r.1)
+    (joined-formed b (flatten bs) f r.0, joined_bytes b (flatten bs) f r.0 ∙ ap (λ (x : List ℕ). bytes_of normalised b ++ x) r.1)
 
 pub anywhere : (bs cs : List (List ℕ)) → every well_formed bs ≡ true → every well_formed cs ≡ true → flatten bs ≡ flatten cs
-    → flatten (map (bytes_of normalise) bs) ≡ flatten (map (bytes_of normalise) cs)
-anywhere bs cs e f q = sym (blocks bs e).1 ∙ ap (bytes_of normalise) q ∙ (blocks cs f).1
+    → flatten (map (bytes_of normalised) bs) ≡ flatten (map (bytes_of normalised) cs)
+anywhere bs cs e f q = sym (blocks bs e).1 ∙ ap (bytes_of normalised) q ∙ (blocks cs f).1
 
 -- ---- the law of a result handed in again: f keeps scalar values, and what it leaves
 module _ (f : Word → Word) (keeps : (w : Word) → Scalars w → Scalars (f w)) (twice : (w : Word) → f (f w) ≡ f w) where
@@ -187,16 +193,18 @@ module _ (f : Word → Word) (keeps : (w : Word) → Scalars w → Scalars (f w)
       same_bytes = (text-again word (formed word e)).1
 
       same-answers : (room : ℕ) → answer f (bytes_of f word) room ≡ answer f word room
-      same-answers room =
-          fitted f (bytes_of f word) taken room ∙ ap (λ (x : List ℕ). fitting (length x) room) same_bytes ∙ sym (fitted f word e room)
+      same-answers = same_answer f (bytes_of f word) word taken e same_bytes
+
+pub normalised-scalars : (w : Word) → Scalars w → Scalars (normalised w)
+normalised-scalars w s = normalise-scalars (unmarked w) (unmarked-scalars w s)
 
 -- a normalised text, cut into well-formed blocks in any way, gives itself
-pub blocks_again : (text : List ℕ) (bs : List (List ℕ)) → well_formed text ≡ true → every well_formed bs ≡ true → flatten bs ≡ bytes_of normalise text
-    → flatten (map (bytes_of normalise) bs) ≡ bytes_of normalise text
-blocks_again text bs e f q = sym (blocks bs f).1 ∙ ap (bytes_of normalise) q ∙ (text-again normalise normalise-scalars main_normalise_twice text e).1
+pub blocks_again : (text : List ℕ) (bs : List (List ℕ)) → well_formed text ≡ true → every well_formed bs ≡ true → flatten bs ≡ bytes_of normalised text
+    → flatten (map (bytes_of normalised) bs) ≡ bytes_of normalised text
+blocks_again text bs e f q = sym (blocks bs f).1 ∙ ap (bytes_of normalised) q ∙ (text-again normalised normalised-scalars main_unmarked_normalise_twice text e).1
 
-pub normalise-again : (word : List ℕ) → checked word ≡ Ok tt → length (bytes_of normalise word) ≤ most_bytes → Again normalise word
-normalise-again = again_law normalise normalise-scalars main_normalise_twice
+pub normalise-again : (word : List ℕ) → checked word ≡ Ok tt → length (bytes_of normalised word) ≤ most_bytes → Again normalised word
+normalise-again = again_law normalised normalised-scalars main_unmarked_normalise_twice
 
 pub finish_keeps : (word : List ℕ) → checked word ≡ Ok tt → length (bytes_of finish word) ≡ length word
 unfolding bytes_of
@@ -214,14 +222,14 @@ pub again_bound : (f : Word → Word) (word : List ℕ) → Again f word → len
 again_bound f word a = short (bytes_of f word) a.accepted
 
 -- how long a word must be for a normalised form of over 255 bytes
-pub short_normalised : (word : List ℕ) → checked word ≡ Ok tt → length word < 192 → length (bytes_of normalise word) ≤ most_bytes
+pub short_normalised : (word : List ℕ) → checked word ≡ Ok tt → length word < 192 → length (bytes_of normalised word) ≤ most_bytes
 unfolding bytes_of
-short_normalised word e h = omega (arith, main_grows (letters word), ap length (spelling word e))
+short_normalised word e h = omega (arith, main_grows (unmarked (letters word)), unmarked-size (letters word), ap length (spelling word e))
 
 -- ---- the examples, by computing
 
-pub grown : (length ligatures ≡ 192) × (answer normalise ligatures enough_room ≡ Ok 256) × (answer normalise (bytes_of normalise ligatures) enough_room ≡ Err (Bad TooLong))
-unfolding answer checked fitting bytes_of letters encode encode1 run step first filled onto normalise normal given gives listed_for longest longer begins_with same A_0
+pub grown : (length ligatures ≡ 192) × (answer normalised ligatures enough_room ≡ Ok 256) × (answer normalised (bytes_of normalised ligatures) enough_room ≡ Err (Bad TooLong))
+unfolding answer checked fitting bytes_of letters encode encode1 run step first filled onto unmarked floating floating_marks normalise normal given gives listed_for longest longer begins_with same A_0
 grown = (refl, refl, refl)
 
 pub finished_apart : (answer finish (alef_block ++ beh_block) enough_room ≡ Ok 4) × (bytes_of finish (alef_block ++ beh_block) ≡ encode (alef ∷ beh ∷ []))

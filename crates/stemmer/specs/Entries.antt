@@ -1,10 +1,12 @@
 -- What the entries answer for the bytes of a word and an output of so many bytes, and what the output holds afterwards.
-use Rattle.std.specs.Prelude.{ℕ, ◌≤◌, ◌≡◌, not, List, [], ◌∷◌, ◌++◌, ltb, length, take, drop, Result, Ok, Err}
+use Rattle.std.specs.Prelude.{ℕ, ◌≡◌, not, List, [], ◌∷◌, ◌++◌, ltb, length, take, drop, Result, Ok, Err}
+use Rattle.std.specs.Borrow.{Bor}
 use Rattle.std.proofs.Math.Option.{Option, none, some}
 use Rattle.utf8.specs.Utf8.{encode, decode, well_formed}
 use Rattle.definition.specs.Words.{Word, pick}
 use Rattle.definition.specs.Kind.{Kind as WordKind, OPEN, kind}
 use Rattle.definition.specs.Stem.{stem, chain}
+use Rattle.definition.specs.Floating.{without_marks}
 use Rattle.definition.specs.Demand3.{Demand3}
 use Rattle.definition.specs.Number.{FewEndings}
 use Rattle.snowball.specs.Chars.{started}
@@ -64,7 +66,7 @@ kind_or_open (Err e) = flags OPEN
 
 -- ---- a word's letters, and results in bytes
 
--- the letters of a word's bytes, none where they are not well formed
+-- the letters of a word's bytes as typed, none where they are not well formed
 abbrev pub or_none : Option Word → Word
 or_none none = []
 or_none (some w) = w
@@ -72,7 +74,7 @@ or_none (some w) = w
 unfoldable pub letters : List ℕ → Word
 letters word = or_none (decode word)
 
--- the bytes of what f makes of a word's letters: f is stem, normalise or finish
+-- the bytes of what f makes of a word's letters: f is without_marks stem, without_marks normalise or finish
 unfoldable pub bytes_of : (Word → Word) → List ℕ → List ℕ
 bytes_of f word = encode (f (letters word))
 
@@ -82,7 +84,7 @@ bytes_of f word = encode (f (letters word))
 unfoldable pub fitting : ℕ → ℕ → Answer
 fitting n room = pick (ltb room n) (Err NoRoom) (Ok n)
 
--- document 01's first two checks, in their order
+-- document 01's first two checks, in their order, of the word as typed
 unfoldable pub checked : List ℕ → Result (Unit {0}) BadWord
 checked word = pick (ltb most_bytes (length word)) (Err TooLong) (pick (not (well_formed word)) (Err NotWellFormed) (Ok tt))
 
@@ -95,13 +97,12 @@ after_checks (Err e) a = Err (Bad e)
 unfoldable pub answer : (Word → Word) → List ℕ → ℕ → Answer
 answer f word room = after_checks (checked word) (fitting (length (bytes_of f word)) room)
 
--- ---- the work on an environment
+-- ---- the work on a word
 
--- It takes each environment that stands for a word of at most 255 bytes, and then gives one that stands for f of the word. pre says which it takes, post
--- what it gives for one.
-pub record Works (pre : Env → Type 0) (post : Env → Env → Type 0) (f : Word → Word) : Type 0 where
-  pub takes : (env : Env) (w : Word) → Stands env (started w) → env.limit ≤ most_bytes → pre env
-  pub gives : (env after : Env) (w : Word) → Stands env (started w) → post env after → Stands after (started (f w))
+-- It takes each accepted word, and gives an environment that stands for what f makes of the word's letters. pre says which it takes, post what it gives for one.
+pub record Works (pre : Bor (List ℕ) → Type 0) (post : Bor (List ℕ) → Env → Type 0) (f : Word → Word) : Type 0 where
+  pub takes : (word : Bor (List ℕ)) → checked word.now ≡ Ok tt → pre word
+  pub gives : (word : Bor (List ℕ)) (env : Env) → checked word.now ≡ Ok tt → post word env → Stands env (started (f (letters word.now)))
 
 -- ---- the output
 
@@ -122,15 +123,15 @@ kind_after (Ok u) k = Ok (flags k)
 kind_after (Err e) k = Err e
 
 unfoldable pub kind_answer : List ℕ → Result Kind BadWord
-kind_answer word = kind_after (checked word) (kind (letters word))
+kind_answer word = kind_after (checked word) (without_marks kind (letters word))
 
 -- ---- the stem entry: the bytes, code and count, and with them the number of endings, which is the length of the chain
 
 abbrev pub stem_bytes : List ℕ → List ℕ
-stem_bytes = bytes_of stem
+stem_bytes = bytes_of (without_marks stem)
 
 abbrev pub stem_answer : List ℕ → ℕ → Answer
-stem_answer = answer stem
+stem_answer = answer (without_marks stem)
 
 abbrev pub with_endings : Answer → ℕ → Result Stem Refusal
 with_endings (Ok n) m = Ok (record { count = n; endings = m })
@@ -141,15 +142,15 @@ without_endings (Ok s) = Ok s.count
 without_endings (Err e) = Err e
 
 abbrev pub stem_entry : List ℕ → ℕ → Result Stem Refusal
-stem_entry word room = with_endings (answer stem word room) (length (chain (letters word)))
+stem_entry word room = with_endings (stem_answer word room) (length (without_marks chain (letters word)))
 
--- demand 3, of the letters that stand in front of the output after an answer with code 0
+-- demand 3, of the word without its marks and the letters that stand in front of the output after an answer with code 0
 abbrev pub Demand3After : List ℕ → Answer → List ℕ → Type 0
-Demand3After word a new = (w : Word) → decode word ≡ some w → code_of a ≡ 0 → (s : Word) × ((take (count_of a) new ≡ encode s) × Demand3 w s)
+Demand3After word a new = (w : Word) → decode word ≡ some w → code_of a ≡ 0 → (s : Word) × ((take (count_of a) new ≡ encode s) × without_marks Demand3 w s)
 
--- what the number of endings is at most, by the letters of the word
+-- what the number of endings is at most, by the letters of the word without its marks
 abbrev pub FewEndingsOf : List ℕ → ℕ → Type 0
-FewEndingsOf word m = (w : Word) → decode word ≡ some w → FewEndings w m
+FewEndingsOf word m = (w : Word) → decode word ≡ some w → without_marks FewEndings w m
 
 -- the version's text: arabic_stemmer 1.0.0, as rust-stemmers 1.2.0
 abbrev pub version : List ℕ

@@ -3,3 +3,4 @@ pub mod Entries
 pub mod Messages
 pub mod Blocks
 pub mod Depends
+pub mod Marks

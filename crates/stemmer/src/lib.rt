@@ -3,11 +3,12 @@
 
 mod outcome;
 
-ghost use Rattle.std.specs.Prelude.{◌≡◌, ◌<◌, ◌≤◌, length, IfOk, IfErr};
+ghost use Rattle.std.specs.Prelude.{◌≡◌, ◌<◌, ◌≤◌, length};
 ghost use Rattle.definition.specs.Words.{Word};
 ghost use Rattle.definition.specs.Normal.{normalise};
 ghost use Rattle.definition.specs.Finish.{finish};
 ghost use Rattle.definition.specs.Stem.{stem};
+ghost use Rattle.definition.specs.Floating.{unmarked, without_marks};
 ghost use Rattle.snowball.specs.Chars.{started};
 ghost use Rattle.snowball.specs.Stands.{Stands};
 ghost use Rattle.stemmer.specs.Entries.{code_of, count_of, endings_of, most_bytes, enough_room, letters, bytes_of, checked, fitting, answer, out_after, part_after, Works, without_endings, kind_answer, Demand3After, FewEndingsOf, version, stem_answer, stem_bytes, stem_entry};
@@ -15,6 +16,7 @@ ghost use Rattle.stemmer.specs.Entries.{code_of, count_of, endings_of, most_byte
 use arabic::kind::{Kind, kind_of};
 use arabic::normalize::r_Normalize_pre;
 use arabic::stem::finish_letters;
+use floating_marks::{has_mark, take_out};
 pub use outcome::{BadWord, Refusal, Stem};
 use snowball::env::Env;
 use utf8::well_formed;
@@ -39,13 +41,32 @@ pub fn check_word(word: &[u8]) -> Result<(), BadWord>
     Ok(())
 }
 
-// A new environment for the word, if it is accepted.
-fn entered(word: &[u8]) -> Result<Env, BadWord>
-    ensures accepted { IfOk result (λ env. (checked word.now ≡ Ok tt) × Stands env (started (letters word.now)) × (env.limit ≤ most_bytes)) }
-    ensures refused { IfErr result (λ bad. checked word.now ≡ Err bad) }
+// An accepted word without its floating marks: the word itself where it has none, and else a copy in front of room.
+fn unmarked<'a>(word: &'a [u8], room: &'a mut [u8]) -> &'a [u8]
+    requires { (checked word.now ≡ Ok tt) × (length word.now ≤ length room.old) }
+    ensures { result.now ≡ bytes_of unmarked word.now }
 {
-    check_word(word)?;
-    Ok(Env::create(word))
+    if !has_mark(word) {
+        return word;
+    }
+    let count = take_out(word, room);
+    &room[..count]
+}
+
+// A new environment for an accepted word as it is typed.
+fn typed_env(word: &[u8]) -> Env
+    requires { checked word.now ≡ Ok tt }
+    ensures { Stands result (started (letters word.now)) }
+{
+    Env::create(word)
+}
+
+// And for the word without its floating marks.
+fn unmarked_env(word: &[u8]) -> Env
+    requires { checked word.now ≡ Ok tt }
+    ensures { Stands result (started (unmarked (letters word.now))) × (result.limit ≤ most_bytes) }
+{
+    Env::create(unmarked(word, &mut [0; LONGEST]))
 }
 
 // Delivering: the text to the front of out, if out has room for it. The answer is how many bytes it has.
@@ -62,15 +83,16 @@ fn deliver(text: &[u8], out: &mut [u8]) -> Result<usize, Refusal>
     Ok(count)
 }
 
-// The stem of the word, and how many endings were cut. An output of ROOM bytes is always long enough.
+// The stem of the word without its floating marks, and how many endings were cut. An output of ROOM bytes is always long enough.
 pub fn stem(word: &[u8], out: &mut [u8]) -> Result<Stem, Refusal>
     ensures value { result ≡ stem_entry word.now (length out.old) }
-    ensures out_after { out.new ≡ out_after (answer stem word.now (length out.old)) (bytes_of stem word.now) out.old }
+    ensures out_after { out.new ≡ out_after (answer (without_marks stem) word.now (length out.old)) (bytes_of (without_marks stem) word.now) out.old }
     ensures demand3after { Demand3After word.now (without_endings result) out.new }
     ensures few_endings_of { FewEndingsOf word.now (endings_of result) }
     ensures out_len_bound { code_of result ≡ 3 → length out.old < enough_room }
 {
-    let found = arabic::stem::stem(entered(word)?);
+    check_word(word)?;
+    let found = arabic::stem::stem(unmarked_env(word));
     let count = deliver(found.env.text(), out)?;
     Ok(Stem {
         count,
@@ -89,31 +111,31 @@ fn stem_front(word: &[u8], out: &mut [u8]) -> usize
 // The stem of the word as the front part of the output, and an empty part on refusal. It gives no code. No contract can speak of the
 // output behind a part that is handed back: `stem_front` does all that is done to the output, and says it.
 pub fn stem_part<'a>(word: &[u8], out: &'a mut [u8]) -> &'a mut [u8]
-    ensures result_value { result.now ≡ part_after (answer stem word.now (length out.old)) (bytes_of stem word.now) }
+    ensures result_value { result.now ≡ part_after (answer (without_marks stem) word.now (length out.old)) (bytes_of (without_marks stem) word.now) }
     ensures ref_ptr_value { result.ref_ptr ≡ out.entry.ref_ptr }
 {
     let count = stem_front(word, out);
     &mut out[..count]
 }
 
-// An entry whose work turns words into words: the word checked, the work done on its environment, and the text that is left delivered.
-fn answered<F: FnOnce(Env) -> Env>(word: &[u8], out: &mut [u8], work: F) -> Result<usize, Refusal>
+// An entry whose work turns words into words: the word checked, the work done on it, and the text that is left delivered.
+fn answered<F: FnOnce(&[u8]) -> Env>(word: &[u8], out: &mut [u8], work: F) -> Result<usize, Refusal>
     requires { (f : Word → Word) × Works (F.pre work) (F.post work) f }
     ensures value { (f : Word → Word) → Works (F.pre work) (F.post work) f → result ≡ answer f word.now (length out.old) }
     ensures out_after { (f : Word → Word) → Works (F.pre work) (F.post work) f → out.new ≡ out_after (answer f word.now (length out.old)) (bytes_of f word.now) out.old }
     ensures out_len_bound { (f : Word → Word) → Works (F.pre work) (F.post work) f → code_of result ≡ 3 → length out.old < enough_room }
 {
-    let env = work(entered(word)?);
-    deliver(env.text(), out)
+    check_word(word)?;
+    deliver(work(word).text(), out)
 }
 
-// The word normalised: item 2 alone. An output of ROOM bytes is always long enough.
+// The word normalised without its floating marks: item 2 alone. An output of ROOM bytes is always long enough.
 pub fn normalise(word: &[u8], out: &mut [u8]) -> Result<usize, Refusal>
-    ensures value { result ≡ answer normalise word.now (length out.old) }
-    ensures out_after { out.new ≡ out_after (answer normalise word.now (length out.old)) (bytes_of normalise word.now) out.old }
+    ensures value { result ≡ answer (without_marks normalise) word.now (length out.old) }
+    ensures out_after { out.new ≡ out_after (answer (without_marks normalise) word.now (length out.old)) (bytes_of (without_marks normalise) word.now) out.old }
     ensures out_len_bound { code_of result ≡ 3 → length out.old < enough_room }
 {
-    answered(word, out, r_Normalize_pre)
+    answered(word, out, |word| r_Normalize_pre(unmarked_env(word)))
 }
 
 // The word finished: item 5 on the word as given. An output of ROOM bytes is always long enough.
@@ -122,15 +144,15 @@ pub fn finish(word: &[u8], out: &mut [u8]) -> Result<usize, Refusal>
     ensures out_after { out.new ≡ out_after (answer finish word.now (length out.old)) (bytes_of finish word.now) out.old }
     ensures out_len_bound { code_of result ≡ 3 → length out.old < enough_room }
 {
-    answered(word, out, finish_letters)
+    answered(word, out, |word| finish_letters(typed_env(word)))
 }
 
-// The kind of the word: item 1.
+// The kind of the word without its floating marks: item 1.
 pub fn kind(word: &[u8]) -> Result<Kind, BadWord>
     ensures { result ≡ kind_answer word.now }
 {
     check_word(word)?;
-    Ok(kind_of(word).outcome)
+    Ok(kind_of(unmarked(word, &mut [0; LONGEST])).outcome)
 }
 
 // The version of the library, and the edition whose stems it gives, as text.

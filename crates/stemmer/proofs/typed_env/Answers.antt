@@ -1,0 +1,11 @@
+-- `typed_env` meets its contract: an accepted word is short enough, and its bytes are those of its letters. Assumes nothing.
+use native.Mathlib.Omega.{arith}
+use Rattle.stemmer.specs.Entries.{letters}
+use Rattle.stemmer.proofs.Answers.{short, scalars, spelling}
+use Rattle.stemmer.proofs.typed_env.Goals as goal
+
+pub create-requires : goal.create-requires
+create-requires c = omega (arith, short c.args.word.now c.requires)
+
+pub returns : goal.returns
+returns c = let w = c.args.word.now in c.create.ensures.1 (letters w) (scalars w c.requires) (spelling w c.requires)
