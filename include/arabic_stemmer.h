@@ -1,8 +1,8 @@
 /* The Arabic stemmer of rust-stemmers 1.2.0, proved. Link libarabic_stemmer.a, which ./build-library writes.
  *
  * Floating marks, vowel marks that stand alone as phones send them (U+FE70 to U+FE72, U+FE74, U+FE76 to U+FE7F), are taken
- * out of the word first where it is stemmed or normalised or its kind is asked for: a word has the answers of the same word
- * without them. Its length, of up to 255 bytes, is counted with them.
+ * out of the word first where it is stemmed or normalised or its kind is asked for: a word that is not refused has the answers
+ * of the same word without them. The 255 bytes of a word are counted with them.
  *
  * Every function ends, allocates nothing and keeps no state: calls from several threads need no lock as long as
  * their outputs do not overlap. A word is any bytes and is only read. Pointers must not be null, also where the
@@ -67,12 +67,13 @@ arabic_stemmer_stem_answer arabic_stemmer_stem(const uint8_t *word, size_t word_
 arabic_stemmer_answer arabic_stemmer_normalise(const uint8_t *word, size_t word_length, uint8_t *output, size_t output_length);
 
 /* The stemmer's last step alone, on the word as given, floating marks and all: a last letter U+0622 to U+0626 becomes U+0621;
- * elsewhere these lose their hamza or madda. The result has as many bytes as the word, and finished again it is the same. It is for whole words:
- * in blocks, the last letter of each would change as a last letter. */
+ * elsewhere these lose their hamza or madda. The result has as many bytes as the word, and finished again it is the
+ * same. It is for whole words: in blocks, the last letter of each would change as a last letter. */
 arabic_stemmer_answer arabic_stemmer_finish(const uint8_t *word, size_t word_length, uint8_t *output, size_t output_length);
 
 /* Whether the word is defined. Codes are 0, 1 and 2; there is no output. It goes by the word as typed, without its
- * floating marks: two words that are normalised to the same bytes may be of two kinds. If they are of one kind, they have the same stem and as many endings. */
+ * floating marks: two words that are normalised to the same bytes may be of two kinds. If they are of one kind, they have the same
+ * stem and as many endings. */
 arabic_stemmer_kind_answer arabic_stemmer_kind(const uint8_t *word, size_t word_length);
 
 /* The version of the library and the edition whose stems it gives, as ASCII text with no zero behind it. Codes are 0

@@ -9,7 +9,7 @@ use lib.Dec.{ltb}
 use lib.ListN.{length, take, drop}
 use lib.Seq.{take_at}
 use borrow.Author.Tests.{lt-ltb, le-ltb, ltb-true, ltb-false}
-use Rattle.std.specs.Prelude.{Result, Ok, Err, IsErrAnd}
+use Rattle.std.specs.Prelude.{Result, Ok, Err, MatchResult, IsOkAnd, IsErrAnd}
 use Rattle.std.proofs.lemmas.Result.{err_from_is_err_and}
 use Rattle.utf8.specs.Utf8.{Scalars, encode, decode, well_formed}
 use Rattle.utf8.proofs.Main.{main_decodes, main_text}
@@ -201,6 +201,13 @@ number word = length (without_marks chain (letters word))
 with_answer : (a : Answer) (m : ℕ) → without_endings (with_endings a m) ≡ a
 with_answer (Ok n) m = refl
 with_answer (Err e) m = refl
+
+-- the number put beside the count, by a work of which P is known
+pub put_beside : {P : ℕ → Stem → Type 0} (a : Answer) (m : ℕ) (r : Result Stem Refusal) → ((n : ℕ) (s : Stem) → P n s → s ≡ record { count = n; endings = m })
+    → MatchResult a (λ n. IsOkAnd r (P n)) (λ e. r ≡ Err e) → r ≡ with_endings a m
+put_beside (Ok n) m (Ok s) p h = ap Ok (p n s h)
+put_beside (Ok n) m (Err e) p h = absurd h
+put_beside (Err e) m r p h = h
 
 pub entry_answer : (word : List ℕ) (room : ℕ) → without_endings (stem_entry word room) ≡ stem_answer word room
 entry_answer word room = with_answer (stem_answer word room) (number word)

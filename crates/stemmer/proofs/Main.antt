@@ -100,8 +100,8 @@ pub main_depends : (u v old old' : List ℕ) → SameKept u v old old' → SameS
 main_depends = kept-stem
 
 -- equal answers and outputs of normalise, and equal answers of kind, are enough for it; and two spellings of one word meet it
-pub main_kept : (u v old : List ℕ) → enough_room ≤ length old → answer (without_marks normalise) u (length old) ≡ answer (without_marks normalise) v (length old) → out_of (without_marks normalise) u old ≡ out_of (without_marks normalise) v old
-    → kind_answer u ≡ kind_answer v → SameKept u v old old
+pub main_kept : (u v old : List ℕ) → enough_room ≤ length old → answer (without_marks normalise) u (length old) ≡ answer (without_marks normalise) v (length old)
+    → out_of (without_marks normalise) u old ≡ out_of (without_marks normalise) v old → kind_answer u ≡ kind_answer v → SameKept u v old old
 main_kept = same_kept
 
 pub main_spellings : (old : List ℕ) → enough_room ≤ length old → SameKept fifth marked old old

@@ -37,9 +37,15 @@ module _ (word : List ℕ) (e : checked word ≡ Ok tt) where
   unfolding bytes_of
   without_short = omega (arith, unmarked-size (letters word), ap length (spelling word e), short word e)
 
+  pub unmarked_short : (bytes : List ℕ) → bytes ≡ bytes_of unmarked word → length bytes ≤ most_bytes
+  unmarked_short bytes h = omega (arith, ap length h, without_short)
+
   pub without_spelt : (bytes : List ℕ) → bytes ≡ bytes_of unmarked word → Encodes bytes (unmarked (letters word))
   unfolding bytes_of
   without_spelt bytes h = (without_scalars, h)
+
+  pub unmarked_spelt : (bytes : List ℕ) → bytes ≡ bytes_of unmarked word → Spelt bytes
+  unmarked_spelt bytes h = record { word = unmarked (letters word); encodes = without_spelt bytes h }
 
   pub taken : (new : List ℕ) (n : ℕ) → ((cs : Word) → Encodes word cs → TakenOut cs new n) → (n ≤ length new) × (take n new ≡ bytes_of unmarked word)
   unfolding bytes_of

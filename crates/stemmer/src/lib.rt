@@ -42,6 +42,7 @@ pub fn check_word(word: &[u8]) -> Result<(), BadWord>
 }
 
 // An accepted word without its floating marks: the word itself where it has none, and else a copy in front of room.
+#[tactic(auto, using(crate::proofs::Without::spelt))]
 fn unmarked<'a>(word: &'a [u8], room: &'a mut [u8]) -> &'a [u8]
     requires { (checked word.now ≡ Ok tt) × (length word.now ≤ length room.old) }
     ensures { result.now ≡ bytes_of unmarked word.now }
@@ -54,14 +55,16 @@ fn unmarked<'a>(word: &'a [u8], room: &'a mut [u8]) -> &'a [u8]
 }
 
 // A new environment for an accepted word as it is typed.
+#[tactic(auto, using(crate::proofs::Answers::short))]
 fn typed_env(word: &[u8]) -> Env
     requires { checked word.now ≡ Ok tt }
-    ensures { Stands result (started (letters word.now)) }
+    ensures { Stands result (started (letters word.now)) × (result.limit ≤ most_bytes) }
 {
     Env::create(word)
 }
 
 // And for the word without its floating marks.
+#[tactic(auto, using(crate::proofs::Answers::short, crate::proofs::Without::unmarked_short))]
 fn unmarked_env(word: &[u8]) -> Env
     requires { checked word.now ≡ Ok tt }
     ensures { Stands result (started (unmarked (letters word.now))) × (result.limit ≤ most_bytes) }
@@ -93,8 +96,7 @@ pub fn stem(word: &[u8], out: &mut [u8]) -> Result<Stem, Refusal>
 {
     check_word(word)?;
     let found = arabic::stem::stem(unmarked_env(word));
-    let count = deliver(found.env.text(), out)?;
-    Ok(Stem {
+    deliver(found.env.text(), out).map(|count| Stem {
         count,
         endings: found.endings,
     })
@@ -148,6 +150,7 @@ pub fn finish(word: &[u8], out: &mut [u8]) -> Result<usize, Refusal>
 }
 
 // The kind of the word without its floating marks: item 1.
+#[tactic(auto, using(crate::proofs::Answers::short, crate::proofs::Without::spelt, crate::proofs::Without::unmarked_spelt))]
 pub fn kind(word: &[u8]) -> Result<Kind, BadWord>
     ensures { result ≡ kind_answer word.now }
 {

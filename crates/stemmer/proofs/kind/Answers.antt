@@ -4,7 +4,7 @@ use Rattle.std.specs.Prelude.{Ok, Err}
 use Rattle.std.proofs.lemmas.Result.{err_from_is_err_and}
 use Rattle.definition.specs.Floating.{unmarked}
 use Rattle.stemmer.specs.Entries.{letters}
-use Rattle.stemmer.proofs.Answers.{short, kind-after}
+use Rattle.stemmer.proofs.Answers.{kind-after}
 use Rattle.stemmer.proofs.Without.{without_spelt}
 use Rattle.stemmer.proofs.kind.Goals as goal
 
@@ -12,17 +12,6 @@ pub returns-in_err-check_word : goal.returns-in_err-check_word
 returns-in_err-check_word c =
     let p = err_from_is_err_and c.from_residual.result c.from_residual.ensures.1 in
     p.1 ∙ ap Err p.2 ∙ kind-after c.args.word.now (Err c.in_err-check_word.field-0.0) (sym c.in_err-check_word.ensures)
-
-pub unmarked-requires : goal.unmarked-requires
-unmarked-requires c =
-    let w = c.args.word.now in
-    let e = sym c.in_ok-check_word.ensures in
-    (e, short w e)
-
-pub kind_of-requires : goal.kind_of-requires
-kind_of-requires c =
-    let w = c.args.word.now in
-    record { word = unmarked (letters w); encodes = without_spelt w (sym c.in_ok-check_word.ensures) c.unmarked.result.now c.unmarked.ensures }
 
 pub returns : goal.returns
 returns c =

@@ -4,8 +4,7 @@ use Rattle.stemmer.specs.Entries.{letters}
 use Rattle.stemmer.proofs.Answers.{short, scalars, spelling}
 use Rattle.stemmer.proofs.typed_env.Goals as goal
 
-pub create-requires : goal.create-requires
-create-requires c = omega (arith, short c.args.word.now c.requires)
-
 pub returns : goal.returns
-returns c = let w = c.args.word.now in c.create.ensures.1 (letters w) (scalars w c.requires) (spelling w c.requires)
+returns c =
+    let w = c.args.word.now in
+    (c.create.ensures.1 (letters w) (scalars w c.requires) (spelling w c.requires), omega (arith, c.create.ensures.0.limit, short w c.requires))

@@ -1,17 +1,11 @@
 -- `unmarked` meets its contract: a word with no mark is handed back, and else the copy is the word without them. Assumes nothing.
 use mathlib.Core.Path.{sym}
 use lib.Seq.{length-take-le}
-use Rattle.stemmer.proofs.Without.{spelt, itself, taken}
+use Rattle.stemmer.proofs.Without.{itself, taken}
 use Rattle.stemmer.proofs.unmarked.Goals as goal
-
-pub has_mark-requires : goal.has_mark-requires
-has_mark-requires c = spelt c.args.word.now c.requires.0
 
 pub returns-then-not-has_mark : goal.returns-then-not-has_mark
 returns-then-not-has_mark c = let m = c.has_mark in itself c.args.word.now c.requires.0 m.result m.ensures c.if-not-has_mark.true
-
-pub take_out-count-requires : goal.take_out-count-requires
-take_out-count-requires c = (spelt c.args.word.now c.requires.0, c.requires.1)
 
 pub slice_bounds-result-end : goal.slice_bounds-result-end
 slice_bounds-result-end c = let t = c.take_out-count in sym (length-take-le t.result t.new.out (taken c.args.word.now c.requires.0 t.new.out t.result t.ensures).0)
