@@ -7,42 +7,62 @@
 
 #include "arabic_stemmer.h"
 
-enum { STACK = 16 * 1024 };
+enum { STACK = 64 * 1024, ARGUMENTS = 7 };
 
-static uint8_t stack[STACK] __attribute__((aligned(4096)));
+/* The seventh argument lies above the stack that is counted, where the caller puts it. */
+static uint8_t stack[STACK + 16] __attribute__((aligned(4096)));
 static uint8_t word[ARABIC_STEMMER_LONGEST_WORD], output[ARABIC_STEMMER_ROOM];
+static uint16_t places[ARABIC_STEMMER_PLACES_ROOM];
+static arabic_stemmer_places_answer places_answer;
+
+/* What a function is lent. An answer of over 16 bytes is written where its caller says, in front of all arguments. */
+enum { WORD = 1, OUTPUT = 2, PLACES = 4 };
 
 typedef struct {
     const char *name;
     void *function;
-    int has_word, has_output;
+    int lent;
     size_t most; /* bytes found so far */
 } entry;
 
-/* Calls the function with up to four arguments on the stack whose top is given. */
-static void call(void *function, uint8_t *top, const void *a, size_t b, const void *c, size_t d)
+/* Calls the function with up to seven arguments on the stack of its own. */
+static void call(void *function, const uintptr_t *argument)
 {
+    uintptr_t a = argument[0], b = argument[1], c = argument[2], d = argument[3];
+    register uintptr_t e __asm__("r8") = argument[4];
+    register uintptr_t f __asm__("r9") = argument[5];
+    uint8_t *top = stack + STACK;
+    memcpy(top, argument + 6, sizeof *argument);
     __asm__ volatile(
         "movq %%rsp, %%rbx\n\t"
         "movq %[top], %%rsp\n\t"
         "call *%[function]\n\t"
         "movq %%rbx, %%rsp"
-        : "+D"(a), "+S"(b), "+d"(c), "+c"(d), [top] "+r"(top), [function] "+r"(function)
+        : "+D"(a), "+S"(b), "+d"(c), "+c"(d), "+r"(e), "+r"(f), [top] "+r"(top), [function] "+r"(function)
         :
-        : "rax", "rbx", "r8", "r9", "r10", "r11", "memory", "cc", "xmm0", "xmm1", "xmm2", "xmm3", "xmm4", "xmm5", "xmm6", "xmm7", "xmm8", "xmm9",
+        : "rax", "rbx", "r10", "r11", "memory", "cc", "xmm0", "xmm1", "xmm2", "xmm3", "xmm4", "xmm5", "xmm6", "xmm7", "xmm8", "xmm9",
           "xmm10", "xmm11", "xmm12", "xmm13", "xmm14", "xmm15");
 }
 
 static size_t used(const entry *e, size_t length, int pattern)
 {
-    size_t kept = 0;
+    uintptr_t argument[ARGUMENTS] = {0};
+    size_t n = 0, kept = 0;
+    if (e->lent & PLACES) argument[n++] = (uintptr_t)&places_answer;
+    if (e->lent & WORD) {
+        argument[n++] = (uintptr_t)word;
+        argument[n++] = length;
+    }
+    if (e->lent & OUTPUT) {
+        argument[n++] = (uintptr_t)output;
+        argument[n++] = sizeof output;
+    }
+    if (e->lent & PLACES) {
+        argument[n++] = (uintptr_t)places;
+        argument[n++] = sizeof places / sizeof *places;
+    }
     memset(stack, pattern, STACK);
-    if (!e->has_output)
-        call(e->function, stack + STACK, word, length, NULL, 0);
-    else if (!e->has_word)
-        call(e->function, stack + STACK, output, sizeof output, NULL, 0);
-    else
-        call(e->function, stack + STACK, word, length, output, sizeof output);
+    call(e->function, argument);
     while (kept < STACK && stack[kept] == pattern) kept++;
     if (kept == 0) {
         fprintf(stderr, "%s used the whole stack of %d bytes\n", e->name, STACK);
@@ -51,11 +71,12 @@ static size_t used(const entry *e, size_t length, int pattern)
     return STACK - kept;
 }
 
-static entry entries[] = {{"stem", (void *)arabic_stemmer_stem, 1, 1, 0},
-                          {"normalise", (void *)arabic_stemmer_normalise, 1, 1, 0},
-                          {"finish", (void *)arabic_stemmer_finish, 1, 1, 0},
-                          {"kind", (void *)arabic_stemmer_kind, 1, 0, 0},
-                          {"version", (void *)arabic_stemmer_version, 0, 1, 0}};
+static entry entries[] = {{"stem", (void *)arabic_stemmer_stem, WORD | OUTPUT, 0},
+                          {"stem_places", (void *)arabic_stemmer_stem_places, WORD | OUTPUT | PLACES, 0},
+                          {"normalise", (void *)arabic_stemmer_normalise, WORD | OUTPUT, 0},
+                          {"finish", (void *)arabic_stemmer_finish, WORD | OUTPUT, 0},
+                          {"kind", (void *)arabic_stemmer_kind, WORD, 0},
+                          {"version", (void *)arabic_stemmer_version, OUTPUT, 0}};
 enum { ENTRIES = sizeof entries / sizeof *entries };
 
 /* Takes the word through all functions, with two patterns, so that a byte that happens to be one of them is seen. */

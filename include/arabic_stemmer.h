@@ -2,11 +2,11 @@
  *
  * Floating marks, vowel marks that stand alone as phones send them (U+FE70 to U+FE72, U+FE74, U+FE76 to U+FE7F), are taken
  * out of the word first where it is stemmed or normalised or its kind is asked for: a word that is not refused has the answers
- * of the same word without them. The 255 bytes of a word are counted with them.
+ * of the same word without them, but for places. Places and the 255 bytes of a word are counted with them.
  *
  * Every function ends, allocates nothing and keeps no state: calls from several threads need no lock as long as
- * their outputs do not overlap. A word is any bytes and is only read. Pointers must not be null, also where the
- * length is 0; word and output must not overlap. */
+ * their outputs and places do not overlap. A word is any bytes and is only read. Pointers must not be null, also where the
+ * length is 0; word, output and places must not overlap. */
 #ifndef ARABIC_STEMMER_H
 #define ARABIC_STEMMER_H
 
@@ -23,11 +23,15 @@ extern "C" {
 /* An output of so many bytes is long enough for every result. */
 #define ARABIC_STEMMER_ROOM 340
 
-/* Codes. With a code other than 0 the count and the number of endings are 0, the kind is open, and the output has its old bytes. */
-#define ARABIC_STEMMER_DONE 0            /* the result stands in front of the output */
+/* So many numbers are enough for the places of every stem's letters. */
+#define ARABIC_STEMMER_PLACES_ROOM 255
+
+/* Codes. With a code other than 0 all other numbers of the answer are 0, so that the kind is open; the output has its old bytes,
+ * and the places are the old numbers. */
+#define ARABIC_STEMMER_DONE 0            /* the result stands in front of the output, and a stem's places in front of theirs */
 #define ARABIC_STEMMER_TOO_LONG 1        /* the word has more than 255 bytes: cut it, or leave it out */
 #define ARABIC_STEMMER_NOT_WELL_FORMED 2 /* the word is not well-formed UTF-8: convert it first */
-#define ARABIC_STEMMER_NO_ROOM 3         /* the result is longer than the output: lend 340 bytes */
+#define ARABIC_STEMMER_NO_ROOM 3         /* the output or the places are too short: lend 340 bytes and 255 numbers */
 
 /* Kinds. */
 #define ARABIC_STEMMER_OPEN 0    /* noun or verb */
@@ -46,6 +50,15 @@ typedef struct {
     size_t count;
 } arabic_stemmer_stem_answer;
 
+/* A code, how many endings were cut, how many bytes of the output the stem has, and how many letters: as many as places are
+ * written. */
+typedef struct {
+    uint32_t code;
+    uint32_t endings;
+    size_t count;
+    size_t letters;
+} arabic_stemmer_places_answer;
+
 /* A code, and a kind. */
 typedef struct {
     uint32_t code;
@@ -59,6 +72,15 @@ typedef struct {
  * changed in front is not counted, nor is a last letter that is changed. For a word of n letters when it is normalised it is
  * at most n - 2, and 0 where n is below 3; for a defined word it is at most 3. */
 arabic_stemmer_stem_answer arabic_stemmer_stem(const uint8_t *word, size_t word_length, uint8_t *output, size_t output_length);
+
+/* The same stem and number of endings, and a place for each letter of the stem: the byte, from 0, at which the letter that it
+ * came from begins in the word as typed, floating marks included. With code 0 as many numbers as the stem has letters stand in
+ * front of the places, and the numbers behind them are the old ones; the output is written as by arabic_stemmer_stem. The length
+ * of the places is in numbers, not in bytes. Where the output or the places are too short the code is 3, and neither is written.
+ * Both letters of a ligature have its place. Where two letters in front become one, the second's place is kept; of U+0623 U+0624
+ * it is the first's. Places never fall along the stem. */
+arabic_stemmer_places_answer arabic_stemmer_stem_places(const uint8_t *word, size_t word_length, uint8_t *output,
+                                                        size_t output_length, uint16_t *places, size_t places_length);
 
 /* The word normalised, with nothing cut: floating and other vowel marks, the tatweel and some punctuation deleted, digits and
  * presentation forms replaced. A well-formed text of any length may be normalised in blocks of up to 255 bytes, each cut before a

@@ -28,10 +28,20 @@ pub struct KindAnswer {
     pub kind: u32,
 }
 
+#[repr(C)]
+#[derive(Clone, Copy, PartialEq, Debug)]
+pub struct PlacesAnswer {
+    pub code: u32,
+    pub endings: u32,
+    pub count: usize,
+    pub letters: usize,
+}
+
 pub type Entry = unsafe extern "C" fn(*const u8, usize, *mut u8, usize) -> Answer;
 
 extern "C" {
     pub fn arabic_stemmer_stem(word: *const u8, word_len: usize, out: *mut u8, out_len: usize) -> StemAnswer;
+    pub fn arabic_stemmer_stem_places(word: *const u8, word_len: usize, out: *mut u8, out_len: usize, places: *mut u16, places_len: usize) -> PlacesAnswer;
     pub fn arabic_stemmer_normalise(word: *const u8, word_len: usize, out: *mut u8, out_len: usize) -> Answer;
     pub fn arabic_stemmer_finish(word: *const u8, word_len: usize, out: *mut u8, out_len: usize) -> Answer;
     pub fn arabic_stemmer_kind(word: *const u8, word_len: usize) -> KindAnswer;

@@ -1,6 +1,6 @@
 // The word as the Rust is given it: without its floating marks (request A5), one letter of FE70 to FE72, FE74 and FE76 to FE7F each.
 
-fn floating(c: char) -> bool {
+pub fn floating(c: char) -> bool {
     match c as u32 {
         0xFE70...0xFE72 | 0xFE74 | 0xFE76...0xFE7F => true,
         _ => false,

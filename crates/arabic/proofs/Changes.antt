@@ -21,7 +21,8 @@ use Rattle.definition.proofs.Match.{by}
 use Rattle.arabic.specs.Texts.{changed}
 use Rattle.utf8.proofs.ReadLetter.{scalar_top}
 use Rattle.utf8.proofs.WriteLetter.{size_2}
-use Rattle.utf8.proofs.Ahead.{cons_size}
+use Rattle.utf8.specs.Beside.{widths}
+use Rattle.utf8.proofs.Beside.{size-wide}
 
 last_in : (c : ℕ) → 0x622 ≤ c → c ≤ 0x626 → last c ≡ 0x621
 unfolding last
@@ -129,11 +130,14 @@ changed_top t c s = scalar_top (changed t c) (changed-scalar t c s)
 
 -- ---- on a word
 
-pub finish-size : (w : Word) → length (encode (finish w)) ≡ length (encode w)
+pub finish-wide : (w : Word) → widths (finish w) ≡ widths w
 unfolding finish
-finish-size [] = refl
-finish-size (c ∷ []) = rw (other_last c) (omega (arith, cons_size (last c) [], cons_size c [], changed-size true c))
-finish-size (c ∷ d ∷ w) = omega (arith, cons_size (other c) (finish (d ∷ w)), cons_size c (d ∷ w), changed-size false c, finish-size (d ∷ w))
+finish-wide [] = refl
+finish-wide (c ∷ []) = rw (other_last c) (ap (λ (n : ℕ). n ∷ []) (changed-size true c))
+finish-wide (c ∷ d ∷ w) = (λ i. changed-size false c i ∷ finish-wide (d ∷ w) i)
+
+pub finish-size : (w : Word) → length (encode (finish w)) ≡ length (encode w)
+finish-size w = size-wide (finish w) w (finish-wide w)
 
 pub finish-scalars : (w : Word) → Scalars w → Scalars (finish w)
 unfolding finish

@@ -5,7 +5,7 @@ use mathlib.Core.List.{List, [], ◌∷◌, ◌++◌}
 use mathlib.Core.Option.{Option, none, some}
 use Prim.Native.Nat.{ℕ, ◌+◌, ◌-◌, ◌≤◌, ◌<◌}
 use native.Mathlib.Omega.{arith}
-use lib.ListN.{length, take, length-append}
+use lib.ListN.{length, take, drop, length-append}
 use lib.Seq.{take-length, length-take-le, take-take, take_at}
 use Rattle.std.specs.Prelude.{Some, None, Ok, Err}
 use Rattle.std.specs.Bool.{then_some}
@@ -18,6 +18,8 @@ use Rattle.definition.proofs.Cutting.{row_some}
 use Rattle.utf8.specs.Utf8.{Scalars, encode1, encode}
 use Rattle.utf8.specs.Places.{size}
 use Rattle.utf8.proofs.Text.{encode1_pos, encode-append, scalars-left}
+use Rattle.utf8.specs.Beside.{at_letters}
+use Rattle.utf8.proofs.Beside.{at_letters-length, at_letters-joined}
 use Rattle.utf8.proofs.Places.{size-append}
 use Rattle.snowball.specs.declared.env.Env.{Env}
 use Rattle.snowball.specs.declared.among.Found.{Found}
@@ -42,8 +44,16 @@ size_some [] h = absurd (omega arith)
 size_some (c ∷ w) h = let e = encode1_pos c in rw (length-append (encode1 c) (encode w)) (omega arith)
 
 -- the letters u in front of a text, with the cursor at their end
-module _ {current : List ℕ} {limit cursor behind : ℕ} {t : Word} (u k : Word) (split : t ≡ u ++ k) (st : Standing current limit cursor behind (at_end t)) where
-  shortened : (place : ℕ) → place ≡ size u → Standing current place place behind (at_end u)
+module _ {current places : List ℕ} {limit cursor behind : ℕ} {t : Word} (ps : List ℕ) (u k : Word) (split : t ≡ u ++ k) (st : Standing current places limit cursor behind (at_end ps t)) where
+  -- they keep their places
+  front-placed : at_letters u places ≡ take (length u) ps
+  front-placed =
+      let l : length t ≡ length u + length k = ap length split ∙ length-append u k in
+      sym (take_at (at_letters u places) (at_letters k (drop (size u) places)) (length u) (at_letters-length u places))
+      ∙ ap (take (length u)) (sym (ap (λ (w : Word). at_letters w places) split ∙ at_letters-joined u k places) ∙ st.placed)
+      ∙ take-take (length u) (length t) ps (omega arith)
+
+  shortened : (place : ℕ) → place ≡ size u → Standing current places place place behind (at_end ps u)
   shortened place e =
       let l : size t ≡ size u + size k = ap size split ∙ size-append u k in
       record {
@@ -54,12 +64,13 @@ module _ {current : List ℕ} {limit cursor behind : ℕ} {t : Word} (u k : Word
             ∙ take_at (encode u) (encode k) place (sym e);
         sized = e;
         within = omega (arith, st.sized, st.within);
+        placed = front-placed;
         cursor = (omega arith, e ∙ ap size (sym (take-length u)));
         back = (omega arith, st.back.1);
       }
 
 -- ---- the cut
-module _ (s : SuffixStep) (v : Cutting) (x : Env) (st : Ends x v) where
+module _ (s : SuffixStep) (ps : List ℕ) (v : Cutting) (x : Env) (st : Ends ps x v) where
   abbrev t : Word
   t = v.text
 
@@ -95,27 +106,27 @@ module _ (s : SuffixStep) (v : Cutting) (x : Env) (st : Ends x v) where
 
   -- the environment that a cut at the place leaves, with one ending more; bra and ket do not matter
   pub cuts : (place : ℕ) → Some place ≡ ending_at s v.text x.limit
-      → (y : Env) → ((u : Word) → Standing x.current place place x.limit_backward (at_end u) → Stands y (at_end u)) → y.limit ≡ place → y.endings ≡ x.endings + 1
-      → Gives (Ok y) (cut s v)
+      → (y : Env) → ((u : Word) → Standing x.current x.places place place x.limit_backward (at_end ps u) → Stands y (at_end ps u)) → y.limit ≡ place → y.endings ≡ x.endings + 1
+      → Gives ps (Ok y) (cut s v)
   unfolding cut cut_off ending m key ending_at
   cuts place at y is ends more = go (taken (ends_with v.text) (suffix s) (length v.text)) refl
     where
-      go : (o : Option ℕ) → taken (ends_with v.text) (suffix s) (length v.text) ≡ o → Gives (Ok y) (cut s v)
+      go : (o : Option ℕ) → taken (ends_with v.text) (suffix s) (length v.text) ≡ o → Gives ps (Ok y) (cut s v)
       go none q = absurd (some_none (at ∙ ap (place_by s x.limit) q))
       go (some r) q =
           let p = some-same (at ∙ ap (place_by s x.limit) q) in
-          subst (Gives (Ok y)) (ap (cut_by s v) (sym q))
+          subst (Gives ps (Ok y)) (ap (cut_by s v) (sym q))
           (record {
-            stands = is (take (m r q place p) t) (shortened (take (m r q place p) t) (key r q place p) (split r q place p) st.stands place (begins r q place p));
+            stands = is (take (m r q place p) t) (shortened ps (take (m r q place p) t) (key r q place p) (split r q place p) st.stands place (begins r q place p));
             counted = omega (arith, more, st.counted);
             room = omega (arith, ends, more, inside r q place p, st.room);
           })
 
   -- where none is taken
-  pub keeps : None ≡ ending_at s v.text x.limit → Gives (Err x) (cut s v)
+  pub keeps : None ≡ ending_at s v.text x.limit → Gives ps (Err x) (cut s v)
   unfolding cut ending_at
   keeps at = go (taken (ends_with v.text) (suffix s) (length v.text)) refl
     where
-      go : (o : Option ℕ) → taken (ends_with v.text) (suffix s) (length v.text) ≡ o → Gives (Err x) (cut s v)
-      go none q = subst (Gives (Err x)) (ap (cut_by s v) (sym q)) st
+      go : (o : Option ℕ) → taken (ends_with v.text) (suffix s) (length v.text) ≡ o → Gives ps (Err x) (cut s v)
+      go none q = subst (Gives ps (Err x)) (ap (cut_by s v) (sym q)) st
       go (some r) q = absurd (some_none (sym (at ∙ ap (place_by s x.limit) q)))

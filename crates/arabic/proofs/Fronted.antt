@@ -6,24 +6,24 @@ use mathlib.Core.Option.{Option, none, some}
 use Prim.Native.Nat.{ℕ, zero, suc, ◌+◌, ◌-◌, ◌≤◌, ◌<◌}
 use native.Mathlib.Omega.{arith}
 use lib.Dec.{leb}
-use Rattle.std.specs.Prelude.{map, Option as Maybe, Some, None, Ok, Err}
+use Rattle.std.specs.Prelude.{map, Option as Maybe, Some, None, Result, Ok, Err}
 use Rattle.std.specs.Bool.{then_some}
 use Rattle.std.specs.Borrow.{Bor}
 use lib.ListN.{length, take, drop, get_or, length-append, length-map, get_or-map}
-use lib.Seq.{drop-append-add, drop-append_seam, take-append_seam}
+use lib.Seq.{take-append-add, drop-append-add, drop-append_seam, take-append_seam}
 use borrow.Author.Tests.{leb-true}
-use Rattle.definition.specs.Words.{Word, pick, both, every, begins_with}
+use Rattle.definition.specs.Words.{Word, pick, both, every, same, begins_with}
 use Rattle.definition.specs.Tables.{Row, A_4, A_5, A_6, A_7, A_8, A_9}
 use Rattle.definition.specs.Search.{row_at, longest, met, taken}
-use Rattle.definition.specs.Tries.{failed}
-use Rattle.definition.specs.Fronts.{PrefixStep, prefix_step1, prefix_step2, prefix_step3a_noun, prefix_step3b_noun, prefix_step3_verb, prefix_step4_verb, prefix, replacements, not_at, Applied, front_row, replacement, Fronting, text, passing, headed, change, begins_with_any, apply_by, apply_unless, apply, started}
+use Rattle.definition.specs.Fronts.{PrefixStep, prefix_step1, prefix_step2, prefix_step3a_noun, prefix_step3b_noun, prefix_step3_verb, prefix_step4_verb, prefix, replacements, not_at, Applied, at, front_row, replacement, Fronting, text, passing, headed, change, begins_with_any, apply_by, apply_unless, apply, started}
 use Rattle.definition.specs.StepRow.{of_front, step_row}
 use Rattle.definition.proofs.StepRow.{row_ended, row_searched}
-use Rattle.definition.proofs.Match.{by, by_le, both_0, both_1, begins_split}
+use Rattle.definition.proofs.Match.{by, by_le, both_0, both_1, same_eq, begins_split}
 use Rattle.definition.proofs.Found.{taken_some, all_at}
 use Rattle.definition.proofs.FrontRows.{replaced_by}
 use Rattle.utf8.specs.Utf8.{Scalars, encode, encode1}
 use Rattle.utf8.specs.Places.{size, At}
+use Rattle.utf8.specs.Beside.{widths}
 use Rattle.utf8.specs.Spelt.{Encodes, Spelt}
 use Rattle.utf8.proofs.Text.{scalars_right}
 use Rattle.utf8.proofs.Places.{drop-size}
@@ -31,9 +31,9 @@ use Rattle.snowball.specs.declared.env.Env.{Env}
 use Rattle.snowball.specs.declared.among.Found.{Found}
 use Rattle.snowball.specs.Rows.{low}
 use Rattle.snowball.specs.Search.{Ahead}
-use Rattle.snowball.specs.Cut.{moved}
+use Rattle.snowball.specs.Cut.{replaced, moved}
 use Rattle.snowball.specs.Match.{stands_at}
-use Rattle.snowball.specs.Chars.{Chars, with_cursor, slice_from}
+use Rattle.snowball.specs.Chars.{Chars, with_cursor, AsWide, slice_from}
 use Rattle.snowball.specs.Stands.{work_size, Stands}
 use Rattle.snowball.proofs.Cut.{moved-behind}
 use Rattle.snowball.proofs.Answers.{low-scalars}
@@ -41,7 +41,9 @@ use Rattle.snowball.proofs.Match.{stands-inside, stands-end, place_match}
 use Rattle.snowball.proofs.Standing.{cursor-within, with_cursor_lem, stands-letters}
 use Rattle.arabic.specs.declared.tried.Searched.{Searched}
 use Rattle.arabic.specs.declared.prefix_halves.TakenRow.{TakenRow}
-use Rattle.arabic.specs.Fronts.{cursor_of, at_front, Fronts, GivesFront, taken_by, Takes, encoded, Puts, InPlace, ChangesInPlace}
+use Rattle.arabic.specs.Tried.{Answers}
+use Rattle.arabic.specs.Fronts.{cursor_of, front_places, at_front, HeadPlaced, GivesText, taken_by, Takes, encoded, Puts, InPlace, ChangesInPlace}
+use Rattle.arabic.proofs.FrontPlaces.{passing-places, level-places}
 use Rattle.arabic.proofs.Guarded.{taken_is, some_none, some-same}
 
 -- ---- the row that is taken: b says whether the row's guard is met
@@ -53,17 +55,19 @@ takes s t rest at f a b e = record { row = a.finds.row; taken = found b ∙ sym 
     found true = λ i. Some (record { class = a.finds.class i; cursor = a.cursor i })
     found false = refl
 
--- ---- a test of every step's rows: the row has letters and a class that is listed, and what is put for it is no longer in bytes
+-- ---- a test of every step's rows: the row has letters and a class that is listed, and what is put for it is as wide as the row's last letters
 abbrev is_fitting_row : PrefixStep → Row → Bool
 is_fitting_row s k =
     both (leb 1 (length k.letters))
     (both (leb 1 k.class)
     (both (leb k.class (length (replacements s)))
     (both (low (replaced_by s k))
-    (leb (size (replaced_by s k)) (size k.letters)))))
+    (both (leb (length (replaced_by s k)) (length k.letters))
+    (both (leb (size (replaced_by s k)) (size k.letters))
+    (same (widths (drop (length k.letters - length (replaced_by s k)) k.letters)) (widths (replaced_by s k))))))))
 
 rows_fit : (s : PrefixStep) → every (is_fitting_row s) (prefix s).table ≡ true
-unfolding prefix replacements A_4 A_5 A_6 A_7 A_8 A_9 encode encode1
+unfolding prefix replacements A_4 A_5 A_6 A_7 A_8 A_9 encode encode1 same
 rows_fit prefix_step1 = refl
 rows_fit prefix_step2 = refl
 rows_fit prefix_step3a_noun = refl
@@ -71,26 +75,32 @@ rows_fit prefix_step3b_noun = refl
 rows_fit prefix_step3_verb = refl
 rows_fit prefix_step4_verb = refl
 
-record RowFits (s : PrefixStep) (k : Row) : Type 0 where
+pub record RowFits (s : PrefixStep) (k : Row) : Type 0 where
   letters : 1 ≤ length k.letters
   class : 1 ≤ k.class
   listed : k.class ≤ length (replacements s)
   scalars : Scalars (replaced_by s k)
+  pub fewer : length (replaced_by s k) ≤ length k.letters
   shorter : size (replaced_by s k) ≤ size k.letters
+  wide : widths (drop (length k.letters - length (replaced_by s k)) k.letters) ≡ widths (replaced_by s k)
 
-row_fits : (s : PrefixStep) (r : ℕ) → r < length (prefix s).table → RowFits s (row_at (prefix s).table r)
+pub row_fits : (s : PrefixStep) (r : ℕ) → r < length (prefix s).table → RowFits s (row_at (prefix s).table r)
 row_fits s r h =
     let k : Row = row_at (prefix s).table r in
     let e = all_at (is_fitting_row s) (prefix s).table (rows_fit s) r h in
     let e1 = both_1 (leb 1 (length k.letters)) _ e in
     let e2 = both_1 (leb 1 k.class) _ e1 in
     let e3 = both_1 (leb k.class (length (replacements s))) _ e2 in
+    let e4 = both_1 (low (replaced_by s k)) _ e3 in
+    let e5 = both_1 (leb (length (replaced_by s k)) (length k.letters)) _ e4 in
     record {
       letters = leb-true 1 (length k.letters) (both_0 _ _ e);
       class = leb-true 1 k.class (both_0 _ _ e1);
       listed = leb-true k.class (length (replacements s)) (both_0 _ _ e2);
       scalars = low-scalars (replaced_by s k) (both_0 (low (replaced_by s k)) _ e3);
-      shorter = leb-true (size (replaced_by s k)) (size k.letters) (both_1 (low (replaced_by s k)) _ e3);
+      fewer = leb-true (length (replaced_by s k)) (length k.letters) (both_0 _ _ e4);
+      shorter = leb-true (size (replaced_by s k)) (size k.letters) (both_0 _ _ e5);
+      wide = same_eq _ _ (both_1 (leb (size (replaced_by s k)) (size k.letters)) _ e5);
     }
 
 -- ---- rows of replacements
@@ -108,7 +118,7 @@ pub put_is : (puts : List (Bor (List ℕ))) (k c : ℕ) (d : Bor (List ℕ)) →
 put_is puts k c d e q = sym (get_or-map (λ (b : Bor (List ℕ)). b.now) puts k d) ∙ (λ i. get_or (map (λ (b : Bor (List ℕ)). b.now) puts) (q i) (e i))
 
 -- ---- an environment at the front
-module _ (x : Env) (w : Fronting) (st : Fronts x w) where
+module _ (x : Env) (ps : List ℕ) (w : Fronting) (st : Stands x (at_front ps w)) where
   split : text w ≡ (w.head_letter ++ w.passed) ++ w.rest
   split = sym (append_assoc w.head_letter w.passed w.rest)
 
@@ -119,7 +129,7 @@ module _ (x : Env) (w : Fronting) (st : Fronts x w) where
   text-length = ap length split ∙ length-append (w.head_letter ++ w.passed) w.rest
 
   front_fits : (x.cursor ≤ x.limit) × (x.limit ≤ work_size)
-  front_fits = (cursor-within x (at_front w) st, st.within)
+  front_fits = (cursor-within x (at_front ps w) st, st.within)
 
   rest-scalars : Scalars w.rest
   rest-scalars = scalars_right (w.head_letter ++ w.passed) w.rest (subst Scalars split st.scalars)
@@ -141,21 +151,18 @@ module _ (x : Env) (w : Fronting) (st : Fronts x w) where
     pub text_fits : Spelt t × (x.cursor ≤ length t)
     text_fits = (record { word = text w; encodes = whole_text }, omega (arith, ap length p, ap length st.bytes, st.sized, front_fits.0))
 
-  failed_as : (s : PrefixStep) → failed w ≡ apply s w → GivesFront (Err x) (apply s w)
-  failed_as s h = subst (GivesFront (Err x)) h st
-
-  -- a text at which the step fails
-  pub barred : (s : PrefixStep) → begins_with_any w.rest (not_at s) ≡ true
-      → GivesFront (Err x) (apply s w) × (length (prefix s).table ≡ step_row (of_front s) w.rest)
+  -- a text at which the step fails: what holds of it, holds behind the step
+  pub barred : (S F : Env → Fronting → Type 0) → F x w → (s : PrefixStep) → begins_with_any w.rest (not_at s) ≡ true
+      → Answers S F (Err x) (apply s w) × (length (prefix s).table ≡ step_row (of_front s) w.rest)
   unfolding apply
-  barred s h = (failed_as s (sym (ap (λ (b : Bool). apply_unless b s w) h)), sym (row_ended (of_front s) w.rest h))
+  barred S F f s h = (subst (Answers S F (Err x)) (sym (ap (λ (b : Bool). apply_unless b s w) h)) f, sym (row_ended (of_front s) w.rest h))
 
   -- a key before the rest, as the code looks for it
   pub looks : (t : List ℕ) → t ≡ take x.limit x.current → (key : List ℕ) (c : ℕ) (cs : Word) → low (c ∷ cs) ≡ true → key ≡ encode (c ∷ cs)
       → stands_at t x.cursor key ≡ begins_with w.rest (c ∷ cs)
   looks t p key c cs l k =
       ap (λ (b : List ℕ). stands_at b x.cursor key) p
-      ∙ stands-letters x (at_front w) st key (c ∷ cs) (low-scalars (c ∷ cs) l) k
+      ∙ stands-letters x (at_front ps w) st key (c ∷ cs) (low-scalars (c ∷ cs) l) k
       ∙ by_le (length (text w)) (cursor_of w)
       (λ h. stands-end (text w) (cursor_of w) (c ∷ cs) h ∙ sym (not_there w.rest (omega (arith, text-length))))
       (λ h. stands-inside (text w) (cursor_of w) (c ∷ cs) h ∙ ap (λ (r : Word). begins_with r (c ∷ cs)) rest_is)
@@ -171,7 +178,7 @@ pub any_next : (w k : Word) (ks : List Word) → begins_with w k ≡ false → b
 any_next w k ks h = ap (λ (b : Bool). pick b true (begins_with_any w ks)) h
 
 -- ---- the replacement
-module _ (s : PrefixStep) (w : Fronting) (x : Env) (st : Fronts x w) where
+module _ (s : PrefixStep) (ps : List ℕ) (w : Fronting) (x : Env) (st : Stands x (at_front ps w)) where
   -- the row of the search is the step's
   pub row_is : (f : Searched (Maybe TakenRow)) → Takes s (text w) w.rest x.cursor f → begins_with_any w.rest (not_at s) ≡ false → f.row ≡ step_row (of_front s) w.rest
   row_is f tk nb = tk.row ∙ sym (row_searched (of_front s) w.rest nb)
@@ -181,16 +188,16 @@ module _ (s : PrefixStep) (w : Fronting) (x : Env) (st : Fronts x w) where
   apply_is nb o q = ap (apply_by s w) (sym q) ∙ sym (ap (λ (b : Bool). apply_unless b s w) nb)
 
   -- no row: the step fails
-  pub not_replaced : None ≡ taken_by s x.cursor (taken (begins_with w.rest) (prefix s) (length (text w))) → begins_with_any w.rest (not_at s) ≡ false → GivesFront (Err x) (apply s w)
+  pub not_replaced : None ≡ taken_by s x.cursor (taken (begins_with w.rest) (prefix s) (length (text w))) → begins_with_any w.rest (not_at s) ≡ false → GivesText ps (Err x) (apply s w)
   not_replaced h nb = go (taken (begins_with w.rest) (prefix s) (length (text w))) refl
     where
-      go : (o : Option ℕ) → taken (begins_with w.rest) (prefix s) (length (text w)) ≡ o → GivesFront (Err x) (apply s w)
-      go none q = failed_as x w st s (apply_is nb none q)
+      go : (o : Option ℕ) → taken (begins_with w.rest) (prefix s) (length (text w)) ≡ o → GivesText ps (Err x) (apply s w)
+      go none q = subst (GivesText ps (Err x)) (apply_is nb none q) st
       go (some r) q = absurd (some_none (sym (h ∙ ap (taken_by s x.cursor) q)))
 
   -- a row is taken
   module _ (f : TakenRow) (h : Some f ≡ taken_by s x.cursor (taken (begins_with w.rest) (prefix s) (length (text w)))) where
-    row-taken : (r : ℕ) × (taken (begins_with w.rest) (prefix s) (length (text w)) ≡ some r)
+    pub row-taken : (r : ℕ) × (taken (begins_with w.rest) (prefix s) (length (text w)) ≡ some r)
     row-taken = go (taken (begins_with w.rest) (prefix s) (length (text w))) refl
       where
         go : (o : Option ℕ) → taken (begins_with w.rest) (prefix s) (length (text w)) ≡ o → (r : ℕ) × (taken (begins_with w.rest) (prefix s) (length (text w)) ≡ some r)
@@ -204,14 +211,14 @@ module _ (s : PrefixStep) (w : Fronting) (x : Env) (st : Fronts x w) where
       fit : RowFits s (row_at (prefix s).table r)
       fit = row_fits s r (taken_some (begins_with w.rest) (prefix s) (length (text w)) r q).inside
 
-      same : f ≡ record { class = (row_at (prefix s).table r).class; cursor = x.cursor + size (row_at (prefix s).table r).letters }
-      same = some-same (h ∙ ap (taken_by s x.cursor) q)
+      taken-same : f ≡ record { class = (row_at (prefix s).table r).class; cursor = x.cursor + size (row_at (prefix s).table r).letters }
+      taken-same = some-same (h ∙ ap (taken_by s x.cursor) q)
 
       class_is : f.class ≡ (row_at (prefix s).table r).class
-      class_is = ap (λ (t : TakenRow). t.class) same
+      class_is = ap (λ (t : TakenRow). t.class) taken-same
 
       cursor_is : f.cursor ≡ x.cursor + size (row_at (prefix s).table r).letters
-      cursor_is = ap (λ (t : TakenRow). t.cursor) same
+      cursor_is = ap (λ (t : TakenRow). t.cursor) taken-same
 
       rest_split : w.rest ≡ key.letters ++ drop (length key.letters) w.rest
       rest_split = begins_split w.rest key.letters (taken_some (begins_with w.rest) (prefix s) (length (text w)) r q).matches
@@ -219,9 +226,9 @@ module _ (s : PrefixStep) (w : Fronting) (x : Env) (st : Fronts x w) where
       place : At (text w) (cursor_of w + length (row_at (prefix s).table r).letters) f.cursor
       place =
           let h : cursor_of w < length (text w) =
-          omega (arith, text-length x w st, fit.letters, ap length rest_split, length-append key.letters (drop (length key.letters) w.rest)) in
+          omega (arith, text-length x ps w st, fit.letters, ap length rest_split, length-append key.letters (drop (length key.letters) w.rest)) in
           let m : stands_at (text w) (cursor_of w) key.letters ≡ true =
-          stands-inside (text w) (cursor_of w) key.letters h ∙ ap (λ (z : Word). begins_with z key.letters) (rest_is x w st)
+          stands-inside (text w) (cursor_of w) key.letters h ∙ ap (λ (z : Word). begins_with z key.letters) (rest_is x ps w st)
           ∙ (taken_some (begins_with w.rest) (prefix s) (length (text w)) r q).matches in
           subst (At (text w) (cursor_of w + length key.letters)) (sym cursor_is) (place_match (text w) key.letters (cursor_of w) x.cursor st.cursor m)
 
@@ -229,65 +236,82 @@ module _ (s : PrefixStep) (w : Fronting) (x : Env) (st : Fronts x w) where
     pub some_class : 1 ≤ f.class
     some_class = let r = row-taken in omega (arith, (fit r.0 r.1).class, class_is r.0 r.1)
 
-    module _ (puts : List (Bor (List ℕ))) (ps : Puts s puts) where
+    module _ (puts : List (Bor (List ℕ))) (pe : Puts s puts) where
       pub in_puts : f.class - 1 < length puts
       in_puts =
           let r = row-taken in
-          let a : length puts ≡ length (replacements s) = sym (length-map puts (λ (b : Bor (List ℕ)). b.now)) ∙ ap length ps ∙ encoded-length (replacements s) in
+          let a : length puts ≡ length (replacements s) = sym (length-map puts (λ (b : Bor (List ℕ)). b.now)) ∙ ap length pe ∙ encoded-length (replacements s) in
           omega (arith, (fit r.0 r.1).class, (fit r.0 r.1).listed, class_is r.0 r.1)
 
       -- put is the bytes that are put
-      module _ (put : List ℕ) (pe : put ≡ get_or (map (λ (b : Bor (List ℕ)). b.now) puts) (f.class - 1) []) where
+      module _ (put : List ℕ) (pp : put ≡ get_or (map (λ (b : Bor (List ℕ)). b.now) puts) (f.class - 1) []) where
         new_bytes : put ≡ encode (get_or (replacements s) (f.class - 1) [])
         new_bytes =
             let r = row-taken in
-            pe ∙ ap (λ (ws : List (List ℕ)). get_or ws (f.class - 1) []) ps ∙ encoded_at (replacements s) (f.class - 1) (omega (arith, (fit r.0 r.1).class, (fit r.0 r.1).listed, class_is r.0 r.1))
+            pp ∙ ap (λ (ws : List (List ℕ)). get_or ws (f.class - 1) []) pe ∙ encoded_at (replacements s) (f.class - 1) (omega (arith, (fit r.0 r.1).class, (fit r.0 r.1).listed, class_is r.0 r.1))
 
         -- the environment whose cut is made, and that it stands for the text
         abbrev marked : Env
-        marked = record { cursor = f.cursor; limit = x.limit; limit_backward = x.limit_backward; bra = x.cursor; ket = f.cursor; current = x.current; endings = x.endings }
+        marked = record { cursor = f.cursor; limit = x.limit; limit_backward = x.limit_backward; bra = x.cursor; ket = f.cursor; endings = x.endings; current = x.current; places = x.places }
 
         abbrev behind : ℕ → ℕ
         behind r = cursor_of w + length (row_at (prefix s).table r).letters
 
-        marked-stands : (r : ℕ) (q : taken (begins_with w.rest) (prefix s) (length (text w)) ≡ some r) → Stands marked (with_cursor (at_front w) (behind r))
-        marked-stands r q = with_cursor_lem x (at_front w) st (behind r) f.cursor (place r q)
+        marked-stands : (r : ℕ) (q : taken (begins_with w.rest) (prefix s) (length (text w)) ≡ some r) → Stands marked (with_cursor (at_front ps w) (behind r))
+        marked-stands r q = with_cursor_lem x (at_front ps w) st (behind r) f.cursor (place r q)
 
-        pub can_slice : ((c : Chars) × Stands marked c) × ((x.cursor ≤ f.cursor) × ((f.cursor ≤ x.limit) × (x.limit - (f.cursor - x.cursor) + length put ≤ work_size)))
+        pub can_slice : ((c : Chars) × Stands marked c) × ((x.cursor + length put ≤ f.cursor) × (f.cursor ≤ x.limit))
         unfolding encode
         can_slice =
             let r : ℕ = row-taken.0 in
             let q = row-taken.1 in
-            let u = cursor-within marked (with_cursor (at_front w) (behind r)) (marked-stands r q) in
+            let u = cursor-within marked (with_cursor (at_front ps w) (behind r)) (marked-stands r q) in
             let l : length put ≡ size (get_or (replacements s) ((row_at (prefix s).table r).class - 1) []) =
             ap length new_bytes ∙ ap (λ (c : ℕ). size (get_or (replacements s) (c - 1) [])) (class_is r q) in
-            ((with_cursor (at_front w) (behind r), marked-stands r q), (omega (arith, cursor_is r q), (u, omega (arith, (fit r q).shorter, cursor_is r q, st.within))))
+            ((with_cursor (at_front ps w) (behind r), marked-stands r q), (omega (arith, cursor_is r q, (fit r q).shorter), u))
 
-        module _ (nb : begins_with_any w.rest (not_at s) ≡ false) (ch : ChangesInPlace s w) (y : Env)
-            (sl : (cs : List ℕ) → Scalars cs → put ≡ encode cs → (c : Chars) → Stands marked c → (b e : ℕ) → At c.text b x.cursor → At c.text e f.cursor → c.back ≤ b → Stands y (slice_from c b e cs)) where
-          stands-changed : (r : ℕ) (q : taken (begins_with w.rest) (prefix s) (length (text w)) ≡ some r) → Fronts y (change s w (record { step = s; row = r }))
+        module _ (nb : begins_with_any w.rest (not_at s) ≡ false) (ch : ChangesInPlace ps s w) (y : Env)
+            (sl : (cs : List ℕ) → Scalars cs → put ≡ encode cs → (c : Chars) → Stands marked c → (b e : ℕ) → At c.text b x.cursor → At c.text e f.cursor → c.back ≤ b → AsWide c.text b e cs → Stands y (slice_from c b e cs)) where
+          wide-cut : (r : ℕ) (q : taken (begins_with w.rest) (prefix s) (length (text w)) ≡ some r) → AsWide (text w) (cursor_of w) (behind r) (replacement (at s r))
+          unfolding front_row replacement
+          wide-cut r q =
+              let key : Word = (row_at (prefix s).table r).letters in
+              let cs : Word = replacement (at s r) in
+              let a : Word = w.head_letter ++ w.passed in
+              let more : Word = drop (length key) w.rest in
+              let k : behind r - length cs ≡ cursor_of w + (length key - length cs) = omega (arith, (fit r q).fewer) in
+              let cut : take (behind r) (text w) ≡ a ++ key =
+              (λ i. take (cursor_of w + length key) ((split x ps w st ∙ ap (λ (z : Word). a ++ z) (rest_split r q)) i))
+              ∙ take-append-add a (key ++ more) (length key) ∙ ap (λ (z : Word). a ++ z) (take-append_seam key more) in (
+                omega (arith, (fit r q).fewer),
+                (λ i. widths (drop (k i) (cut i))) ∙ ap widths (drop-append-add a key (length key - length cs)) ∙ (fit r q).wide,
+              )
+
+          stands-changed : (r : ℕ) (q : taken (begins_with w.rest) (prefix s) (length (text w)) ≡ some r) → Stands y (at_front ps (change s w (record { step = s; row = r })))
           unfolding front_row replacement
           stands-changed r q =
               let m : Applied = record { step = s; row = r } in
               let cs : Word = replacement m in
-              let p = ch m in
+              let p = ch r q in
               let e : put ≡ encode cs = new_bytes ∙ ap (λ (c : ℕ). encode (get_or (replacements s) (c - 1) [])) (class_is r q) in
-              let v = sl cs (fit r q).scalars e (with_cursor (at_front w) (behind r)) (marked-stands r q) (cursor_of w) (behind r) st.cursor (place r q) (omega arith) in
+              let v = sl cs (fit r q).scalars e (with_cursor (at_front ps w) (behind r)) (marked-stands r q) (cursor_of w) (behind r) st.cursor (place r q) (omega arith) (wide-cut r q) in
               let mv : moved (behind r) (cursor_of w) (behind r) (length cs) ≡ cursor_of (change s w m) =
               sym (moved-behind (behind r) (cursor_of w) (behind r) (length cs) (omega arith))
               ∙ (let z : behind r - (behind r - cursor_of w) + length cs ≡ cursor_of w + length cs = omega arith in z) ∙ p.cursor in
-              subst (Stands y) (λ i. record { text = p.text i; cursor = mv i; back = 0 }) v
+              subst (Stands y) (λ i. record { text = p.text i; places = p.places i; cursor = mv i; back = 0 }) v
 
-          pub is_replaced : GivesFront (Ok y) (apply s w)
+          pub is_replaced : GivesText ps (Ok y) (apply s w)
           is_replaced =
               let r : ℕ = row-taken.0 in
               let q = row-taken.1 in
-              subst (GivesFront (Ok y)) (apply_is nb (some r) q) (stands-changed r q)
+              subst (GivesText ps (Ok y)) (apply_is nb (some r) q) (stands-changed r q)
 
 -- ---- what the steps make of a text
 -- every step but Step1 passes what it puts
-pub passing_in_place : (f : Fronting) (m : Applied) → InPlace f m (passing f m)
-passing_in_place f m = record {
+passing_in_place : (ps : List ℕ) (f : Fronting) (m : Applied)
+    → replaced (front_places ps f) (cursor_of f) (cursor_of f + length (front_row m) - length (replacement m)) [] ≡ front_places ps (passing f m) → InPlace ps f m (passing f m)
+passing_in_place ps f m e = record {
+  places = e;
   text =
       (λ i. take (cursor_of f) (before i) ++ replacement m ++ drop (cursor_of f + length (front_row m)) (before i))
       ∙ (λ i. take-append_seam (f.head_letter ++ f.passed) f.rest i ++ replacement m ++ drop-append-add (f.head_letter ++ f.passed) f.rest (length (front_row m)) i)
@@ -299,10 +323,45 @@ passing_in_place f m = record {
     before : text f ≡ (f.head_letter ++ f.passed) ++ f.rest
     before = sym (append_assoc f.head_letter f.passed f.rest)
 
+-- where nothing is passed
+pub unpassed_in_place : (s : PrefixStep) (ps : List ℕ) (f : Fronting) → HeadPlaced ps f → f.passed ≡ []
+    → (r : ℕ) → taken (begins_with f.rest) (prefix s) (length (text f)) ≡ some r → InPlace ps f (at s r) (passing f (at s r))
+unfolding front_row replacement
+unpassed_in_place s ps f h u r q =
+    passing_in_place ps f (at s r) (passing-places ps f (at s r) h u (row_fits s r (taken_some (begins_with f.rest) (prefix s) (length (text f)) r q).inside).fewer)
+
+-- where as many letters are put as the row has
+pub level_in_place : (s : PrefixStep) (ps : List ℕ) (f : Fronting) → HeadPlaced ps f → ((r : ℕ) → r < length (prefix s).table → length (replacement (at s r)) ≡ length (front_row (at s r)))
+    → (r : ℕ) → taken (begins_with f.rest) (prefix s) (length (text f)) ≡ some r → InPlace ps f (at s r) (passing f (at s r))
+level_in_place s ps f h e r q =
+    passing_in_place ps f (at s r) (level-places ps f (at s r) h (e r (taken_some (begins_with f.rest) (prefix s) (length (text f)) r q).inside))
+
 -- Step1, at the start
-pub headed_in_place : (w : Word) (m : Applied) → InPlace (started w) m (headed (started w) m)
+pub headed_in_place : (ps : List ℕ) (w : Word) (m : Applied)
+    → replaced (front_places ps (started w)) (cursor_of (started w)) (cursor_of (started w) + length (front_row m) - length (replacement m)) [] ≡ front_places ps (headed (started w) m)
+    → InPlace ps (started w) m (headed (started w) m)
 unfolding started
-headed_in_place w m = record {
+headed_in_place ps w m e = record {
+  places = e;
   text = let z : 0 + length (front_row m) ≡ length (front_row m) = omega arith in ap (λ (n : ℕ). replacement m ++ drop n w) z;
   cursor = let z : 0 + length (replacement m) ≡ length (replacement m) = omega arith in z ∙ sym (ap length (append-nil (replacement m)));
 }
+
+-- ---- what holds behind a step: where it fails, of the state before it, and where it succeeds, of what it has changed
+pub holds_behind : (S F : Env → Fronting → Type 0) (s : PrefixStep) (ps : List ℕ) (w : Fronting)
+    → ((e : Env) → Stands e (at_front ps w) → F e w)
+    → ((r : ℕ) → taken (begins_with w.rest) (prefix s) (length (text w)) ≡ some r → (e : Env) → Stands e (at_front ps (change s w (at s r))) → S e (change s w (at s r)))
+    → (t : Result Env Env) → GivesText ps t (apply s w) → Answers S F t (apply s w)
+unfolding apply
+holds_behind S F s ps w f d t g = bar (begins_with_any w.rest (not_at s)) t g
+  where
+    row : (o : Option ℕ) → taken (begins_with w.rest) (prefix s) (length (text w)) ≡ o → (t : Result Env Env) → GivesText ps t (apply_by s w o) → Answers S F t (apply_by s w o)
+    row none q (Ok e) h = absurd h
+    row none q (Err e) h = f e h
+    row (some r) q (Ok e) h = d r q e h
+    row (some r) q (Err e) h = absurd h
+
+    bar : (b : Bool) (t : Result Env Env) → GivesText ps t (apply_unless b s w) → Answers S F t (apply_unless b s w)
+    bar true (Ok e) h = absurd h
+    bar true (Err e) h = f e h
+    bar false t h = row (taken (begins_with w.rest) (prefix s) (length (text w))) refl t h

@@ -1,7 +1,11 @@
 -- Between the items the cursor goes to the end of the text, and back to the front. Assumes nothing.
 use mathlib.Core.Path.{◌≡◌, refl, sym, ap, ◌∙◌}
 use native.Mathlib.Omega.{arith}
-use lib.Seq.{take-length}
+use mathlib.Core.List.{List}
+use Prim.Native.Nat.{ℕ}
+use lib.ListN.{length, take}
+use lib.Seq.{take-length, take_all}
+use Rattle.utf8.proofs.Beside.{at_letters-length}
 use Rattle.definition.specs.Words.{Word}
 use Rattle.definition.specs.Endings.{uncut}
 use Rattle.definition.specs.Fronts.{Fronting, text}
@@ -12,39 +16,47 @@ use Rattle.utf8.proofs.Places.{zero_byte}
 use Rattle.snowball.specs.declared.env.Env.{Env}
 use Rattle.snowball.specs.Chars.{started}
 use Rattle.snowball.specs.Stands.{Standing, Stands}
-use Rattle.arabic.specs.Endings.{at_end, Ends}
-use Rattle.arabic.specs.Fronts.{Fronts}
+use Rattle.arabic.specs.Endings.{at_end, left_of, Ends}
+use Rattle.arabic.specs.Fronts.{front_places, at_front, Passed}
 
-module _ (x : Env) (w : Word) where
-  pub to_end : Stands x (started w) → Standing x.current x.limit x.limit x.cursor (at_end w)
+module _ (x : Env) (w : Word) (ps : List ℕ) where
+  -- a place for each letter and no more
+  pub all_places : Stands x (started w ps) → take (length w) ps ≡ ps
+  all_places st = take_all (length w) ps (omega (arith, sym (ap length st.placed) ∙ at_letters-length w x.places))
+
+  pub to_end : Stands x (started w ps) → Standing x.current x.places x.limit x.limit x.cursor (at_end ps w)
   to_end st = record {
     scalars = st.scalars;
     bytes = st.bytes;
     sized = st.sized;
     within = st.within;
+    placed = st.placed ∙ sym (all_places st);
     cursor = (omega arith, st.sized ∙ ap size (sym (take-length w)));
     back = st.cursor;
   }
 
   -- where the endings begin none is cut
-  pub none_cut : Stands x (at_end w) → x.endings ≡ 0 → Ends x (uncut w)
+  pub none_cut : Stands x (at_end ps w) → x.endings ≡ 0 → Ends ps x (uncut w)
   none_cut st z = record { stands = st; counted = z; room = omega (arith, z, st.within) }
 
-  pub to_front : Stands x (at_end w) → Standing x.current x.limit x.limit_backward x.limit_backward (started w)
-  to_front st = record { scalars = st.scalars; bytes = st.bytes; sized = st.sized; within = st.within; cursor = st.back; back = st.back }
+  pub to_front : Stands x (at_end ps w) → Standing x.current x.places x.limit x.limit_backward x.limit_backward (left_of ps w)
+  to_front st = record { scalars = st.scalars; bytes = st.bytes; sized = st.sized; within = st.within; placed = st.placed; cursor = st.back; back = st.back }
 
-  pub at_start : Stands x (started w) → Fronts x (definition.started w)
+  pub at_start : Stands x (started w ps) → Stands x (at_front ps (definition.started w))
   unfolding definition.started
   at_start st = st
 
 -- the cursor of the environment e that the fronts began with
-pub back_to : (e x : Env) (w : Word) (g : Fronting) → Stands e (started w) → Fronts x g → Standing x.current x.limit e.cursor x.limit_backward (started (text g))
+pub back_to : (e x : Env) (w : Word) (ps : List ℕ) (g : Fronting) → Stands e (started w ps) → Passed ps x g → Standing x.current x.places x.limit e.cursor x.limit_backward (started (text g) (front_places ps g))
 unfolding encode
-back_to e x w g s st = record {
-  scalars = st.scalars;
-  bytes = st.bytes;
-  sized = st.sized;
-  within = st.within;
-  cursor = (omega arith, zero_byte w 0 e.cursor s.cursor refl);
-  back = st.back;
-}
+back_to e x w ps g s p =
+    let st = p.stands in
+    record {
+      scalars = st.scalars;
+      bytes = st.bytes;
+      sized = st.sized;
+      within = st.within;
+      placed = st.placed;
+      cursor = (omega arith, zero_byte w 0 e.cursor s.cursor refl);
+      back = st.back;
+    }

@@ -1,11 +1,11 @@
 -- The last letter 0649: the search that finds it, and what replaces it. Assumes nothing.
 use mathlib.Core.Path.{◌≡◌, refl, sym, ap, ◌∙◌, subst}
 use mathlib.Core.Bool.{Bool, true}
-use mathlib.Core.List.{[], ◌∷◌, ◌++◌, append-nil}
+use mathlib.Core.List.{List, [], ◌∷◌, ◌++◌, append-nil}
 use Prim.Native.Nat.{ℕ, ◌+◌, ◌-◌, ◌≤◌}
 use native.Mathlib.Omega.{arith}
-use lib.ListN.{length, take, drop, length-append}
-use lib.Seq.{length-take-le, drop-length}
+use lib.ListN.{length, take, drop, length-append, take-append-drop}
+use lib.Seq.{length-take-le, take-length, drop-length, drop_at}
 use Rattle.definition.specs.Letters.{alef_maksura, yeh}
 use Rattle.definition.specs.Words.{Word, pick, ends_with}
 use Rattle.definition.specs.Tables.{A_21}
@@ -19,9 +19,10 @@ use Rattle.utf8.proofs.Places.{size-append}
 use Rattle.snowball.specs.declared.env.Env.{Env}
 use Rattle.snowball.specs.declared.among.Found.{Found}
 use Rattle.snowball.specs.Search.{Behind}
-use Rattle.snowball.specs.Cut.{moved}
-use Rattle.snowball.specs.Chars.{Chars, slice_from}
-use Rattle.snowball.specs.Stands.{work_size, Stands}
+use Rattle.utf8.specs.Beside.{widths}
+use Rattle.snowball.specs.Cut.{replaced, moved}
+use Rattle.snowball.specs.Chars.{Chars, AsWide, slice_from}
+use Rattle.snowball.specs.Stands.{Stands}
 use Rattle.snowball.proofs.Cut.{moved-behind}
 use Rattle.arabic.specs.Endings.{at_end}
 
@@ -44,11 +45,11 @@ letters_are : (w : Word) → ends_with w last ≡ true → (row_at A_21 (longest
 unfolding A_21 longest longer
 letters_are w e = rw e refl
 
-module _ (x : Env) (w : Word) (st : Stands x (at_end w)) (f : Found) (b : Behind A_21 w x.limit f) where
-  pub not_last : f.class ≡ 0 → Stands x (at_end (suffix_all_alef_maqsura w))
+module _ (x : Env) (ps : List ℕ) (w : Word) (st : Stands x (at_end ps w)) (f : Found) (b : Behind A_21 w x.limit f) where
+  pub not_last : f.class ≡ 0 → Stands x (at_end ps (suffix_all_alef_maqsura w))
   not_last h = by (ends_with w last)
       (λ e. absurd (omega (arith, b.finds.class ∙ class_is w ∙ ap (λ (t : Bool). pick t 1 0) e)))
-      (λ e. subst (λ (v : Word). Stands x (at_end v)) (sym (maqsura-stays w e)) st)
+      (λ e. subst (λ (v : Word). Stands x (at_end ps v)) (sym (maqsura-stays w e)) st)
 
   module _ (some1 : f.class ≡ 0 → ⊥) where
     ends : ends_with w last ≡ true
@@ -73,11 +74,20 @@ module _ (x : Env) (w : Word) (st : Stands x (at_end w)) (f : Found) (b : Behind
     place : At w m f.cursor
     place = let l = lengths in (omega (arith, l.0, l.2), omega (arith, l.1, l.3, st.sized))
 
-    pub room : (f.cursor ≤ x.limit) × (x.limit - (x.limit - f.cursor) + 2 ≤ work_size)
-    room = let l = lengths in (omega (arith, l.3), omega (arith, l.1, l.3, st.sized, st.within))
+    pub room : (f.cursor + 2 ≤ x.cursor) × (x.cursor ≤ x.limit)
+    room = let l = lengths in let e = st.cursor.1 ∙ ap size (take-length w) in (omega (arith, l.1, l.3, st.sized, e), omega (arith, st.sized, e))
 
-    pub is_last : (y : Env) → ((c : Chars) → Stands x c → (b k : ℕ) → At c.text b f.cursor → At c.text k x.cursor → c.back ≤ b → Stands y (slice_from c b k (yeh ∷ [])))
-        → Stands y (at_end (suffix_all_alef_maqsura w))
+    -- both letters have two bytes
+    as_wide : AsWide w m (length w) (yeh ∷ [])
+    unfolding m encode1
+    as_wide =
+        let l = lengths in (
+          omega (arith, l.0, l.2),
+          ap (λ (z : Word). widths (drop m z)) (take-length w ∙ split) ∙ ap widths (drop_at (take m w) last m l.2),
+        )
+
+    pub is_last : (y : Env) → ((c : Chars) → Stands x c → (b k : ℕ) → At c.text b f.cursor → At c.text k x.cursor → c.back ≤ b → AsWide c.text b k (yeh ∷ []) → Stands y (slice_from c b k (yeh ∷ [])))
+        → Stands y (at_end ps (suffix_all_alef_maqsura w))
     unfolding m
     is_last y sl =
         let l = lengths in
@@ -87,4 +97,6 @@ module _ (x : Env) (w : Word) (st : Stands x (at_end w)) (f : Found) (b : Behind
         ap (λ (z : Word). length (take m w ++ (yeh ∷ []) ++ z)) (drop-length w) ∙ ap length (append-nil (take m w ++ (yeh ∷ []))) ∙ length-append (take m w) (yeh ∷ []) ∙ sym l.0 in
         let c : moved (length w) m (length w) 1 ≡ length (suffix_all_alef_maqsura w) =
         sym (moved-behind (length w) m (length w) 1 (omega arith)) ∙ (let z : length w - (length w - m) + 1 ≡ length w = omega (arith, l.0, l.2) in z) ∙ sym n ∙ ap length t in
-        subst (Stands y) (λ i. record { text = t i; cursor = c i; back = 0 }) (sl (at_end w) st m (length w) place st.cursor (omega arith))
+        let q : replaced (take (length w) ps) m (length w - 1) [] ≡ take (length (suffix_all_alef_maqsura w)) ps =
+        ap (λ (z : List ℕ). z ++ drop m (take (length w) ps)) (append-nil (take m (take (length w) ps))) ∙ take-append-drop m (take (length w) ps) ∙ ap (λ (k : ℕ). take k ps) (sym n ∙ ap length t) in
+        subst (Stands y) (λ i. record { text = t i; places = q i; cursor = c i; back = 0 }) (sl (at_end ps w) st m (length w) place st.cursor (omega arith) as_wide)

@@ -2,7 +2,10 @@
 pub mod Main
 pub mod Guarded
 pub mod Ending
+pub mod FrontPlaces
 pub mod Fronted
+pub mod FrontSteps
+pub mod KeptPlaces
 pub mod Items
 pub mod LastLetter
 pub mod Nest
@@ -11,6 +14,7 @@ pub mod Table
 pub mod Halving
 pub mod Gives
 pub mod Passing
+pub mod Marking
 pub mod Normalising
 pub mod Changes
 pub mod Finishing

@@ -8,8 +8,7 @@ use Rattle.utf8.specs.Utf8.{encode}
 use Rattle.definition.specs.Words.{Word}
 use Rattle.definition.specs.Normal.{normalise}
 use Rattle.definition.specs.Finish.{finish}
-use Rattle.snowball.specs.Stands.{work_size}
-use Rattle.arabic.specs.Texts.{longest_word}
+use Rattle.snowball.specs.Stands.{work_size, longest_word}
 use Rattle.arabic.specs.Rows.{classes, row_of, class_of, right_table}
 use Rattle.arabic.proofs.Table.{right_table_lem, class_at, normalise_grows}
 use Rattle.arabic.proofs.Changes.{finish-size}

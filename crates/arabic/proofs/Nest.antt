@@ -1,7 +1,7 @@
 -- The laws of a branch in a nest of alternatives, whatever an environment stands for. Assumes nothing.
 use mathlib.Core.Path.{◌≡◌, refl, sym, ap, ◌∙◌, subst}
 use Rattle.std.specs.Prelude.{Result, Ok, Err, MatchResult, IsOkAnd}
-use mathlib.Core.List.{[], ◌∷◌}
+use mathlib.Core.List.{List, [], ◌∷◌}
 use Prim.Native.Nat.{ℕ, ◌≤◌}
 use native.Mathlib.Omega.{arith}
 use lib.ListN.{length}
@@ -16,45 +16,48 @@ use Rattle.snowball.specs.Stands.{Stands}
 use Rattle.snowball.specs.Stands.{handed_back}
 use Rattle.arabic.specs.Tried.{Answers}
 use Rattle.arabic.specs.Endings.{at_end, Ends, Ready, Gives}
+use Rattle.arabic.specs.Fronts.{Passed, Fronts, GivesThird, GivesPassed}
 use Rattle.arabic.proofs.Repeat.{after-fits}
 use Rattle.arabic.specs.Nests.{after_step1, after_step1b, by_step1b, noun_first, verb_steps, prefix_step3}
 
-module _ {A : Type 0} (S : Env → A → Type 0) where
-  -- the alternative behind t, which is tried where t has failed
-  pub or_else : (t r : Result Env Env) (g : Step A) → MatchResult t (λ e. r ≡ Ok e) (λ e. (v : A) → S e v → Answers S r (g v)) → (y : Try A) → Answers S t y → Answers S r (if_failed y g)
-  or_else (Ok e) r g k (done a) h = subst (λ (x : Result Env Env). Answers S x (done a)) (sym k) h
-  or_else (Ok e) r g k (failed a) h = absurd h
-  or_else (Err e) r g k (done a) h = absurd h
-  or_else (Err e) r g k (failed a) h = k a h
+module _ {A : Type 0} (S F : Env → A → Type 0) where
+  -- the alternative behind t, which is tried where t has failed; where it fails too, G holds
+  pub or_else : (G : Env → A → Type 0) (t r : Result Env Env) (g : Step A) → MatchResult t (λ e. r ≡ Ok e) (λ e. (v : A) → F e v → Answers S G r (g v)) → (y : Try A) → Answers S F t y
+      → Answers S G r (if_failed y g)
+  or_else G (Ok e) r g k (done a) h = subst (λ (x : Result Env Env). Answers S G x (done a)) (sym k) h
+  or_else G (Ok e) r g k (failed a) h = absurd h
+  or_else G (Err e) r g k (done a) h = absurd h
+  or_else G (Err e) r g k (failed a) h = k a h
 
+module _ {A : Type 0} (S : Env → A → Type 0) where
   -- what follows t where t has succeeded
-  pub and_next : (t r : Result Env Env) (g : Step A) → MatchResult t (λ e. (v : A) → S e v → Answers S r (g v)) (λ e. r ≡ Err e) → (y : Try A) → Answers S t y → Answers S r (and_then y g)
+  pub and_next : (t r : Result Env Env) (g : Step A) → MatchResult t (λ e. (v : A) → S e v → Answers S S r (g v)) (λ e. r ≡ Err e) → (y : Try A) → Answers S S t y → Answers S S r (and_then y g)
   and_next (Ok e) r g k (done a) h = k a h
   and_next (Ok e) r g k (failed a) h = absurd h
   and_next (Err e) r g k (done a) h = absurd h
-  and_next (Err e) r g k (failed a) h = subst (λ (x : Result Env Env). Answers S x (failed a)) (sym k) h
+  and_next (Err e) r g k (failed a) h = subst (λ (x : Result Env Env). Answers S S x (failed a)) (sym k) h
 
   -- what a step leaves, where nothing is the last alternative: e is the environment, and z what is tried
-  pub left_is : (t : Result Env Env) (y z : Try A) (e : Env) → if_failed y nothing ≡ z → e ≡ handed_back t → Answers S t y → (a : A) × ((z ≡ done a) × S e a)
+  pub left_is : (t : Result Env Env) (y z : Try A) (e : Env) → if_failed y nothing ≡ z → e ≡ handed_back t → Answers S S t y → (a : A) × ((z ≡ done a) × S e a)
   left_is (Ok x) (done a) z e q p h = (a, (sym q, subst (λ (i : Env). S i a) (sym p) h))
   left_is (Ok x) (failed a) z e q p h = absurd h
   left_is (Err x) (done a) z e q p h = absurd h
   left_is (Err x) (failed a) z e q p h = (a, (sym q, subst (λ (i : Env). S i a) (sym p) h))
 
   -- what a step leaves, whether it succeeds or not
-  pub left_after : (t : Result Env Env) (y : Try A) (e : Env) → e ≡ handed_back t → Answers S t y → S e (after y)
+  pub left_after : (t : Result Env Env) (y : Try A) (e : Env) → e ≡ handed_back t → Answers S S t y → S e (after y)
   left_after (Ok x) (done a) e p h = subst (λ (i : Env). S i a) (sym p) h
   left_after (Ok x) (failed a) e p h = absurd h
   left_after (Err x) (done a) e p h = absurd h
   left_after (Err x) (failed a) e p h = subst (λ (i : Env). S i a) (sym p) h
 
 -- where a step has failed, what it leaves is ready for the next alternative
-pub ready_err : (t : Result Env Env) (y : Try Cutting) → Gives t y → (e : Env) → t ≡ Err e → Ready e
-ready_err t y g e q = go y (subst (λ (r : Result Env Env). Gives r y) q g)
+pub ready_err : (ps : List ℕ) (t : Result Env Env) (y : Try Cutting) → Gives ps t y → (e : Env) → t ≡ Err e → Ready e
+ready_err ps t y g e q = go y (subst (λ (r : Result Env Env). Gives ps r y) q g)
   where
-    go : (y : Try Cutting) → Gives (Err e) y → Ready e
+    go : (y : Try Cutting) → Gives ps (Err e) y → Ready e
     go (done a) h = absurd h
-    go (failed a) h = (a, h)
+    go (failed a) h = (a, (ps, h))
 
 -- ---- the verb, as straight-line code tries it
 pub after_step1_is : (v : Cutting) → if_failed (if_failed (cut verb_step2a v) (cut verb_step2c)) nothing ≡ after_step1 v
@@ -66,32 +69,32 @@ unfolding verb after_step1 ◌then_try◌
 verb_is v = sym (first_from_lem (cut verb_step1 then_try again (length v.text) (cut verb_step1) then_try after_step1) (cut verb_step2b ∷ cut verb_step2a ∷ []) v)
 
 -- what a repetition of Step1 leaves is ready for what follows it
-pub repeated_ready : (e r : Env) → Ready e → ((v : Cutting) → Ends e v → (n : ℕ) → length v.text ≤ n → (w : Cutting) × ((again n (cut verb_step1) v ≡ done w) × Ends r w)) → Ready r
-repeated_ready e r p f = let q = f p.0 p.1 (length p.0.text) (omega arith) in (q.0, q.1.1)
+pub repeated_ready : (e r : Env) → Ready e → ((ps : List ℕ) (v : Cutting) → Ends ps e v → (n : ℕ) → length v.text ≤ n → (w : Cutting) × ((again n (cut verb_step1) v ≡ done w) × Ends ps r w)) → Ready r
+repeated_ready e r p f = let q = f p.1.0 p.0 p.1.1 (length p.0.text) (omega arith) in (q.0, (p.1.0, q.1.1))
 
 -- and what follows it
-pub behind_step1 : (e r x : Env) → ((v : Cutting) → Ends e v → (n : ℕ) → length v.text ≤ n → (w : Cutting) × ((again n (cut verb_step1) v ≡ done w) × Ends r w))
-    → ((v : Cutting) → Ends r v → (w : Cutting) × ((after_step1 v ≡ done w) × Ends x w))
-    → (v : Cutting) → Ends e v → (n : ℕ) → length v.text ≤ n → (w : Cutting) × ((and_then (again n (cut verb_step1) v) after_step1 ≡ done w) × Ends x w)
-behind_step1 e r x f g v st n h =
-    let q = f v st n h in
-    let a = g q.0 q.1.1 in
+pub behind_step1 : (e r x : Env) → ((ps : List ℕ) (v : Cutting) → Ends ps e v → (n : ℕ) → length v.text ≤ n → (w : Cutting) × ((again n (cut verb_step1) v ≡ done w) × Ends ps r w))
+    → ((ps : List ℕ) (v : Cutting) → Ends ps r v → (w : Cutting) × ((after_step1 v ≡ done w) × Ends ps x w))
+    → (ps : List ℕ) (v : Cutting) → Ends ps e v → (n : ℕ) → length v.text ≤ n → (w : Cutting) × ((and_then (again n (cut verb_step1) v) after_step1 ≡ done w) × Ends ps x w)
+behind_step1 e r x f g ps v st n h =
+    let q = f ps v st n h in
+    let a = g ps q.0 q.1.1 in
     (a.0, (ap (λ (y : Try Cutting). and_then y after_step1) q.1.0 ∙ a.1.0, a.1.1))
 
 -- Step1 and what follows it, where r is what is made of its answer t
-pub by_step1 : (t r : Result Env Env) (v : Cutting)
-    → MatchResult t (λ e. IsOkAnd r (λ x. (u : Cutting) → Ends e u → (n : ℕ) → length u.text ≤ n → (w : Cutting) × ((and_then (again n (cut verb_step1) u) after_step1 ≡ done w) × Ends x w))) (λ e. r ≡ Err e)
-    → Gives t (cut verb_step1 v) → Gives r (and_then (and_then (cut verb_step1 v) (again (length v.text) (cut verb_step1))) after_step1)
-by_step1 t r v k = go t r k (cut verb_step1 v) (length v.text) (after-fits verb_step1 v)
+pub by_step1 : (ps : List ℕ) (t r : Result Env Env) (v : Cutting)
+    → MatchResult t (λ e. IsOkAnd r (λ x. (qs : List ℕ) (u : Cutting) → Ends qs e u → (n : ℕ) → length u.text ≤ n → (w : Cutting) × ((and_then (again n (cut verb_step1) u) after_step1 ≡ done w) × Ends qs x w))) (λ e. r ≡ Err e)
+    → Gives ps t (cut verb_step1 v) → Gives ps r (and_then (and_then (cut verb_step1 v) (again (length v.text) (cut verb_step1))) after_step1)
+by_step1 ps t r v k = go t r k (cut verb_step1 v) (length v.text) (after-fits verb_step1 v)
   where
     go : (t r : Result Env Env)
-        → MatchResult t (λ e. IsOkAnd r (λ x. (u : Cutting) → Ends e u → (n : ℕ) → length u.text ≤ n → (w : Cutting) × ((and_then (again n (cut verb_step1) u) after_step1 ≡ done w) × Ends x w))) (λ e. r ≡ Err e)
-        → (y : Try Cutting) (n : ℕ) → length (after y).text ≤ n → Gives t y → Gives r (and_then (and_then y (again n (cut verb_step1))) after_step1)
-    go (Ok e) (Ok x) k (done u) n l h = let q = k u h n l in subst (Gives (Ok x)) (sym q.1.0) q.1.1
+        → MatchResult t (λ e. IsOkAnd r (λ x. (qs : List ℕ) (u : Cutting) → Ends qs e u → (n : ℕ) → length u.text ≤ n → (w : Cutting) × ((and_then (again n (cut verb_step1) u) after_step1 ≡ done w) × Ends qs x w))) (λ e. r ≡ Err e)
+        → (y : Try Cutting) (n : ℕ) → length (after y).text ≤ n → Gives ps t y → Gives ps r (and_then (and_then y (again n (cut verb_step1))) after_step1)
+    go (Ok e) (Ok x) k (done u) n l h = let q = k ps u h n l in subst (Gives ps (Ok x)) (sym q.1.0) q.1.1
     go (Ok e) (Err x) k (done u) n l h = absurd k
     go (Ok e) r k (failed u) n l h = absurd h
     go (Err e) r k (done u) n l h = absurd h
-    go (Err e) r k (failed u) n l h = subst (λ (x : Result Env Env). Gives x (failed u)) (sym k) h
+    go (Err e) r k (failed u) n l h = subst (λ (x : Result Env Env). Gives ps x (failed u)) (sym k) h
 
 -- ---- the noun
 pub after_step1b_is : (v : Cutting) → if_failed (if_failed (cut noun_step2a v) (cut noun_step2b)) (cut noun_step2c1) ≡ after_step1b v
@@ -116,21 +119,30 @@ unfolding endings
 endings_is k w = sym (first_from_lem (if_open k verb) (noun k ∷ []) (uncut w))
 
 -- what the noun and the verb leave with y, and how many endings were cut
-abbrev Left : Env → ℕ → Try Cutting → Type 0
-Left e n y = Stands e (at_end (maqsura_if_failed y (after y).text)) × (n ≡ length (after y).cuts)
+abbrev Left : List ℕ → Env → ℕ → Try Cutting → Type 0
+Left ps e n y = Stands e (at_end ps (maqsura_if_failed y (after y).text)) × (n ≡ length (after y).cuts)
 
-pub maqsura-done : (e : Env) (y : Try Cutting) → Gives (Ok e) y → Left e e.endings y
+pub maqsura-done : (ps : List ℕ) (e : Env) (y : Try Cutting) → Gives ps (Ok e) y → Left ps e e.endings y
 unfolding maqsura_if_failed
-maqsura-done e (done v) g = (g.stands, g.counted)
-maqsura-done e (failed v) g = absurd g
+maqsura-done ps e (done v) g = (g.stands, g.counted)
+maqsura-done ps e (failed v) g = absurd g
 
-pub maqsura-failed : (e r : Env) (y : Try Cutting) → Gives (Err e) y
-    → ((w : Word) → Stands e (at_end w) → Stands r (at_end (suffix_all_alef_maqsura w))) → Left r e.endings y
+pub maqsura-failed : (ps : List ℕ) (e r : Env) (y : Try Cutting) → Gives ps (Err e) y
+    → ((w : Word) → Stands e (at_end ps w) → Stands r (at_end ps (suffix_all_alef_maqsura w))) → Left ps r e.endings y
 unfolding maqsura_if_failed
-maqsura-failed e r (done v) g f = absurd g
-maqsura-failed e r (failed v) g f = (f v.text g.stands, g.counted)
+maqsura-failed ps e r (done v) g f = absurd g
+maqsura-failed ps e r (failed v) g f = (f v.text g.stands, g.counted)
 
 -- ---- item 4
+pub passed_of : (ps : List ℕ) (e : Env) (f : Fronting) → Fronts ps e f → Passed ps e f
+passed_of ps e f h = record { stands = h.stands; placed = h.placed }
+
+pub third_passed : (ps : List ℕ) (t : Result Env Env) (y : Try Fronting) → GivesThird ps t y → GivesPassed ps t y
+third_passed ps (Ok e) (done a) h = h
+third_passed ps (Ok e) (failed a) h = absurd h
+third_passed ps (Err e) (done a) h = absurd h
+third_passed ps (Err e) (failed a) h = passed_of ps e a h
+
 pub verb_steps_is : (w : Fronting) → apply prefix_step4_verb (after (apply prefix_step3_verb w)) ≡ verb_steps w
 unfolding verb_steps attempt ◌then_try◌
 verb_steps_is w = refl

@@ -1,5 +1,5 @@
 -- The environments that r_Normalize_pre and r_Normalize_post leave stand for the word normalised and finished. Assumes nothing.
-use mathlib.Core.Path.{◌≡◌, refl, sym, ◌∙◌, subst}
+use mathlib.Core.Path.{◌≡◌, sym, ◌∙◌, subst}
 use mathlib.Core.Bool.{true}
 use mathlib.Core.List.{List}
 use Prim.Native.Nat.{ℕ}
@@ -14,44 +14,51 @@ use Rattle.definition.proofs.Passed.{plain_word}
 use Rattle.snowball.specs.Chars.{Chars, started}
 use Rattle.snowball.specs.Stands.{Standing}
 use Rattle.utf8.specs.Spelt.{Encodes, Spelt}
-use Rattle.arabic.specs.Texts.{Normalised, Finished}
+use Rattle.places.specs.Places.{Typed, letters_of, normal_places}
+use Rattle.utf8.proofs.Beside.{at_letters-wide}
+use Rattle.arabic.specs.Texts.{typed_text, Normalised, Finished}
+use Rattle.arabic.proofs.Marking.{plain_places}
 use Rattle.arabic.proofs.Gives.{normalise-scalars}
-use Rattle.arabic.proofs.Changes.{finish-size, finish-scalars}
+use Rattle.arabic.proofs.Changes.{finish-wide, finish-size, finish-scalars}
 
-module _ {current : List ℕ} {limit at behind : ℕ} where
+module _ {current places : List ℕ} {limit at behind : ℕ} where
   -- the text in bytes
-  pub encoded : {s : Chars} → Standing current limit at behind s → (t : List ℕ) → t ≡ take limit current → Encodes t s.text
+  pub encoded : {s : Chars} → Standing current places limit at behind s → (t : List ℕ) → t ≡ take limit current → Encodes t s.text
   encoded v t p = (v.scalars, p ∙ v.bytes)
 
-  pub spelt : {s : Chars} → Standing current limit at behind s → (t : List ℕ) → t ≡ take limit current → Spelt t
+  pub spelt : {s : Chars} → Standing current places limit at behind s → (t : List ℕ) → t ≡ take limit current → Spelt t
   spelt {s} v t p = record { word = s.text; encodes = encoded v t p }
 
-  pub normalised : (w : Word) → Standing current limit at behind (started w) → (new : List ℕ) (n : ℕ) → Normalised w new n
-      → Standing new n 0 0 (started (normalise w))
+  pub normalised : (ts : List Typed) → Standing current places limit at behind (typed_text ts) → (new beside : List ℕ) (n : ℕ) → Normalised ts new beside n
+      → Standing new beside n at behind (started (normalise (letters_of ts)) (normal_places ts))
   unfolding encode
-  normalised w v new n d =
+  normalised ts v new beside n d =
       record {
-        scalars = normalise-scalars w v.scalars;
+        scalars = normalise-scalars (letters_of ts) v.scalars;
         bytes = d.bytes;
         sized = d.sized;
         within = d.within;
-        cursor = (omega arith, refl);
-        back = (omega arith, refl);
+        placed = d.placed;
+        cursor = (omega arith, v.cursor.1);
+        back = (omega arith, v.back.1);
       }
 
   -- a word of plain letters alone is normalised
-  pub passed : (w : Word) → Standing current limit at behind (started w) → every plain_letter w ≡ true
-      → Standing current limit at behind (started (normalise w))
-  passed w v p = subst (λ (n : Word). Standing current limit at behind (started n)) (sym (plain_word w p)) v
+  pub passed : (ts : List Typed) → Standing current places limit at behind (typed_text ts) → every plain_letter (letters_of ts) ≡ true
+      → Standing current places limit at behind (started (normalise (letters_of ts)) (normal_places ts))
+  passed ts v p =
+      subst (λ (s : Chars). Standing current places limit at behind s)
+      (λ i. started (sym (plain_word (letters_of ts) p) i) (sym (plain_places ts p) i)) v
 
-  pub finished : (w : Word) → Standing current limit at behind (started w) → (old new all : List ℕ) → take limit all ≡ new → Finished w old new
-      → Standing all limit at behind (started (finish w))
-  finished w v old new all t d =
+  pub finished : (w : Word) (ps : List ℕ) → Standing current places limit at behind (started w ps) → (old new all : List ℕ) → take limit all ≡ new → Finished w old new
+      → Standing all places limit at behind (started (finish w) ps)
+  finished w ps v old new all t d =
       record {
         scalars = finish-scalars w v.scalars;
         bytes = t ∙ d.bytes;
         sized = v.sized ∙ sym (finish-size w);
         within = v.within;
+        placed = at_letters-wide (finish w) w places (finish-wide w) ∙ v.placed;
         cursor = (omega arith, v.cursor.1);
         back = (omega arith, v.back.1);
       }

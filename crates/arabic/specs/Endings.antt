@@ -1,5 +1,6 @@
--- The environments of item 3: the cursor stands at the end of the text, and a search backward may go all the way.
-use Rattle.std.specs.Prelude.{ℕ, ◌+◌, ◌-◌, ◌≤◌, ◌≡◌, length, Option as Maybe, Some, None, Result}
+-- The environments of item 3: the cursor stands at the end of the text, and a search backward may go all the way. The letters that are left keep
+-- their places: those of item 3's first letters.
+use Rattle.std.specs.Prelude.{ℕ, ◌+◌, ◌-◌, ◌≤◌, ◌≡◌, List, length, take, Option as Maybe, Some, None, Result}
 use Rattle.std.proofs.Math.Option.{Option, none, some}
 use Rattle.definition.specs.Words.{Word, ends_with}
 use Rattle.definition.specs.Search.{row_at, taken}
@@ -8,25 +9,30 @@ use Rattle.definition.specs.Endings.{SuffixStep, suffix, Cutting}
 use Rattle.definition.specs.StepRow.{of_ending, step_row}
 use Rattle.utf8.specs.Places.{size}
 use Rattle.snowball.specs.declared.env.Env.{Env}
-use Rattle.snowball.specs.Chars.{Chars}
+use Rattle.snowball.specs.Chars.{Chars, started}
 use Rattle.snowball.specs.Stands.{work_size, Stands}
 use Rattle.arabic.specs.declared.tried.Searched.{Searched}
 use Rattle.arabic.specs.Tried.{Answers}
 
-abbrev pub at_end : Word → Chars
-at_end w = record { text = w; cursor = length w; back = 0 }
+-- the text w, for which item 3 began with letters at the places ps
+abbrev pub at_end : List ℕ → Word → Chars
+at_end ps w = record { text = w; places = take (length w) ps; cursor = length w; back = 0 }
+
+-- and with the cursor in front
+abbrev pub left_of : List ℕ → Word → Chars
+left_of ps w = started w (take (length w) ps)
 
 -- the environment has the letters that are left and the number of the endings cut, each of which took a byte at least
-pub record Ends (e : Env) (v : Cutting) : Type 0 where
-  pub stands : Stands e (at_end v.text)
+pub record Ends (ps : List ℕ) (e : Env) (v : Cutting) : Type 0 where
+  pub stands : Stands e (at_end ps v.text)
   pub counted : e.endings ≡ length v.cuts
   pub room : e.limit + e.endings ≤ work_size
 
 abbrev pub Ready : Env → Type 0
-Ready e = (v : Cutting) × Ends e v
+Ready e = (v : Cutting) × ((ps : List ℕ) × Ends ps e v)
 
-abbrev pub Gives : Result Env Env → Try Cutting → Type 0
-Gives r y = Answers Ends r y
+abbrev pub Gives : List ℕ → Result Env Env → Try Cutting → Type 0
+Gives ps r y = Answers (Ends ps) (Ends ps) r y
 
 -- where the ending that a step takes begins, in a text of so many bytes; none where the step takes none
 abbrev pub place_by : SuffixStep → ℕ → Option ℕ → Maybe ℕ

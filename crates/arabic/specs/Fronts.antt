@@ -1,11 +1,13 @@
--- The environments of item 4: the cursor stands in front of the letters that are not yet passed.
-use Rattle.std.specs.Prelude.{ℕ, ◌+◌, ◌≡◌, List, [], ◌∷◌, ◌++◌, map, length, Option as Maybe, Some, None, Result}
+-- The environments of item 4: the cursor stands in front of the letters that are not yet passed. The head letter keeps the place of the letter of the
+-- front that it is, and the letters behind the front keep theirs.
+use Rattle.std.specs.Prelude.{ℕ, ◌+◌, ◌-◌, ◌*◌, ◌≤◌, ◌≡◌, Bool, false, eqb, MatchOption, List, [], ◌∷◌, ◌++◌, map, length, take, drop, Option as Maybe, Some, None, Result}
 use Rattle.std.specs.Borrow.{Bor}
 use Rattle.std.proofs.Math.Option.{Option, none, some}
 use Rattle.definition.specs.Words.{Word, begins_with}
 use Rattle.definition.specs.Search.{row_at, longest, taken}
 use Rattle.definition.specs.Tries.{Try}
-use Rattle.definition.specs.Fronts.{PrefixStep, prefix, replacements, Applied, front_row, replacement, Fronting, text, change, started}
+use Rattle.definition.specs.Fronts.{PrefixStep, prefix, replacements, Applied, at, front_row, replacement, Fronting, text, change, started}
+use Rattle.places.specs.Places.{head_from}
 use Rattle.utf8.specs.Utf8.{encode}
 use Rattle.utf8.specs.Places.{size}
 use Rattle.snowball.specs.declared.env.Env.{Env}
@@ -20,21 +22,55 @@ use Rattle.arabic.specs.Tried.{Answers}
 abbrev pub cursor_of : Fronting → ℕ
 cursor_of f = length (f.head_letter ++ f.passed)
 
-abbrev pub at_front : Fronting → Chars
-at_front f = record { text = text f; cursor = cursor_of f; back = 0 }
+-- of the places ps of the letters with which item 4 began, that of the head letter, and those of all behind the front
+abbrev pub head_places : List ℕ → Fronting → List ℕ
+head_places ps f = take (length f.head_letter) (drop (head_from f.front) ps)
 
-abbrev pub Fronts : Env → Fronting → Type 0
-Fronts e f = Stands e (at_front f)
+abbrev pub front_places : List ℕ → Fronting → List ℕ
+front_places ps f = head_places ps f ++ drop (length f.front) ps
+
+abbrev pub at_front : List ℕ → Fronting → Chars
+at_front ps f = record { text = text f; places = front_places ps f; cursor = cursor_of f; back = 0 }
+
+-- a head letter has a place, and two letters of the front
+pub record HeadPlaced (ps : List ℕ) (f : Fronting) : Type 0 where
+  pub head : length (head_places ps f) ≡ length f.head_letter
+  pub two : 2 * length f.head_letter ≤ length f.front
+
+-- e stands for the state f of item 4
+pub record Passed (ps : List ℕ) (e : Env) (f : Fronting) : Type 0 where
+  pub stands : Stands e (at_front ps f)
+  pub placed : HeadPlaced ps f
+
+-- and nothing is passed yet
+pub record Fronts (ps : List ℕ) (e : Env) (f : Fronting) : Type 0 where
+  pub stands : Stands e (at_front ps f)
+  pub placed : HeadPlaced ps f
+  pub unpassed : f.passed ≡ []
 
 abbrev pub ReadyFront : Env → Type 0
-ReadyFront e = (f : Fronting) × Fronts e f
+ReadyFront e = (f : Fronting) × ((ps : List ℕ) × Fronts ps e f)
 
--- at the start nothing is passed
+abbrev pub ReadyPassed : Env → Type 0
+ReadyPassed e = (f : Fronting) × ((ps : List ℕ) × Passed ps e f)
+
+-- at the start nothing is changed
 abbrev pub ReadyStart : Env → Type 0
-ReadyStart e = (w : Word) × Fronts e (started w)
+ReadyStart e = (w : Word) × ((ps : List ℕ) × Stands e (at_front ps (started w)))
 
-abbrev pub GivesFront : Result Env Env → Try Fronting → Type 0
-GivesFront r y = Answers Fronts r y
+-- Step1 and Step2 pass nothing; a step of Step3 that succeeds passes what it puts; and so does Step4_Verb
+abbrev pub GivesFront : List ℕ → Result Env Env → Try Fronting → Type 0
+GivesFront ps r y = Answers (Fronts ps) (Fronts ps) r y
+
+abbrev pub GivesThird : List ℕ → Result Env Env → Try Fronting → Type 0
+GivesThird ps r y = Answers (Passed ps) (Fronts ps) r y
+
+abbrev pub GivesPassed : List ℕ → Result Env Env → Try Fronting → Type 0
+GivesPassed ps r y = Answers (Passed ps) (Passed ps) r y
+
+-- what any step gives: the text and the places
+abbrev pub GivesText : List ℕ → Result Env Env → Try Fronting → Type 0
+GivesText ps r y = Answers (λ (e : Env) (f : Fronting). Stands e (at_front ps f)) (λ (e : Env) (f : Fronting). Stands e (at_front ps f)) r y
 
 -- ---- the row that a step takes
 -- its class, and the place behind it; none where the step takes none
@@ -47,6 +83,10 @@ pub record Takes (s : PrefixStep) (t rest : Word) (at : ℕ) (f : Searched (Mayb
   pub row : f.row ≡ longest (begins_with rest) (prefix s).table
   pub taken : f.outcome ≡ taken_by s at (taken (begins_with rest) (prefix s) (length t))
 
+-- b says whether the row that is taken has class 3
+abbrev pub FirstKept : Maybe TakenRow → Bool → Type 0
+FirstKept o b = MatchOption o (b ≡ false) (λ t. b ≡ eqb t.class 3)
+
 -- ---- what a step puts in its place
 abbrev pub encoded : List Word → List (List ℕ)
 encoded [] = []
@@ -56,11 +96,12 @@ encoded (w ∷ ws) = encode w ∷ encoded ws
 abbrev pub Puts : PrefixStep → List (Bor (List ℕ)) → Type 0
 Puts s puts = map (λ (b : Bor (List ℕ)). b.now) puts ≡ encoded (replacements s)
 
--- g is f with the row of m at the cursor replaced, and the cursor behind what replaces it
-pub record InPlace (f : Fronting) (m : Applied) (g : Fronting) : Type 0 where
+-- g is f with the row of m at the cursor replaced, as many places as letters go taken out there, and the cursor behind what replaces the row
+pub record InPlace (ps : List ℕ) (f : Fronting) (m : Applied) (g : Fronting) : Type 0 where
   pub text : replaced (text f) (cursor_of f) (cursor_of f + length (front_row m)) (replacement m) ≡ text g
+  pub places : replaced (front_places ps f) (cursor_of f) (cursor_of f + length (front_row m) - length (replacement m)) [] ≡ front_places ps g
   pub cursor : cursor_of f + length (replacement m) ≡ cursor_of g
 
--- what s makes of f
-abbrev pub ChangesInPlace : PrefixStep → Fronting → Type 0
-ChangesInPlace s f = (m : Applied) → InPlace f m (change s f m)
+-- what s makes of f by the row that it takes
+abbrev pub ChangesInPlace : List ℕ → PrefixStep → Fronting → Type 0
+ChangesInPlace ps s f = (r : ℕ) → taken (begins_with f.rest) (prefix s) (length (text f)) ≡ some r → InPlace ps f (at s r) (change s f (at s r))

@@ -1,5 +1,5 @@
 // The Rust's context, lent to the two functions that store in it.
-ghost use Rattle.std.specs.Prelude.{◌≡◌, is_ok};
+ghost use Rattle.std.specs.Prelude.{◌≡◌, List, ℕ, is_ok};
 ghost use Rattle.definition.specs.Words.{Word};
 ghost use Rattle.definition.specs.Kind.{kind};
 ghost use Rattle.definition.specs.Fronts.{Fronting, prefix_step4_verb, apply};
@@ -7,7 +7,7 @@ ghost use Rattle.definition.specs.StepRow.{kind_check, of_front, step_row};
 ghost use Rattle.utf8.specs.Spelt.{Encodes, Spelt};
 ghost use Rattle.arabic.specs.Kinds.{flags};
 ghost use Rattle.arabic.specs.Contexts.{started, flagged, made_verb};
-ghost use Rattle.arabic.specs.Fronts.{Fronts, ReadyFront, GivesFront};
+ghost use Rattle.arabic.specs.Fronts.{Passed, ReadyPassed, GivesPassed};
 
 use crate::kind::kind_of;
 use crate::prefix_steps::replace_Prefix_Step4_Verb;
@@ -62,8 +62,8 @@ pub fn checked(text: &[u8]) -> Searched<Context>
 
 // The Rust's r_Prefix_Step4_Verb: where the step succeeds, the lent context becomes that of a verb and no noun.
 pub fn r_Prefix_Step4_Verb(env: Env, context: &mut Context) -> Searched<Tried>
-    requires { ReadyFront env }
-    ensures { ((w : Fronting) → Fronts env w → GivesFront result.outcome (apply prefix_step4_verb w) × (result.row ≡ step_row (of_front prefix_step4_verb) w.rest)) × (context.new ≡ made_verb context.old (is_ok result.outcome)) }
+    requires { ReadyPassed env }
+    ensures { ((ps : List ℕ) (w : Fronting) → Passed ps env w → GivesPassed ps result.outcome (apply prefix_step4_verb w) × (result.row ≡ step_row (of_front prefix_step4_verb) w.rest)) × (context.new ≡ made_verb context.old (is_ok result.outcome)) }
 {
     let stepped = replace_Prefix_Step4_Verb(env);
     if stepped.outcome.is_ok() {

@@ -1,5 +1,5 @@
 // The Rust's arabic.rs: the tables, the steps, and the stem on an environment.
-// What is called once on a word's way is marked inline(always): a call copies the environment.
+// Some functions are marked inline(always), where that spares a copy of the environment, which a call makes.
 #![tactic(auto)]
 
 pub mod a_0;

@@ -1,15 +1,17 @@
 // Items 2 and 5: the letter loops of r_Normalize_pre and r_Normalize_post.
-ghost use Rattle.std.specs.Prelude.{◌≡◌, false, ◌+◌, ◌<◌, ◌≤◌, length, IfSome};
+ghost use Rattle.std.specs.Prelude.{◌≡◌, false, List, ℕ, ◌+◌, ◌<◌, ◌≤◌, length, IfSome};
 ghost use Rattle.definition.specs.Words.{Word, every};
 ghost use Rattle.definition.specs.Facts.{plain_letter};
 ghost use Rattle.definition.specs.Normal.{normalise};
 ghost use Rattle.definition.specs.Finish.{last, other, finish};
 ghost use Rattle.snowball.specs.Chars.{Chars, started};
-ghost use Rattle.snowball.specs.Stands.{work_size, Stands, Holds};
+ghost use Rattle.snowball.specs.Stands.{work_size, longest_word, Stands, Holds};
 ghost use Rattle.utf8.specs.Spelt.{Encodes, Spelt};
+ghost use Rattle.utf8.specs.Beside.{at_letters};
+ghost use Rattle.places.specs.Places.{Typed, letters_of, places_of, normal_places};
 ghost use Rattle.arabic.specs.Bytes.{LetterIs};
 ghost use Rattle.arabic.specs.Rows.{class_of, listed, given_bytes};
-ghost use Rattle.arabic.specs.Texts.{longest_word, Normalised, Finished, changed};
+ghost use Rattle.arabic.specs.Texts.{typed_text, Normalised, Finished, changed};
 
 use crate::a_0::{A_0_CLASSES, A_0_GIVES, A_0_KEYS};
 use crate::tables;
@@ -53,19 +55,27 @@ fn given<'a>(class: Option<u8>, letter: &'a [u8]) -> &'a [u8]
     }
 }
 
-// The loop of r_Normalize_pre, from a text into out: a plain letter is copied, any other is searched in A_0. The answer is the number
-// of bytes written. The Rust searches every letter, and replaces it within the text, which moves all that is behind it.
+// The loop of r_Normalize_pre, from a text into out: a plain letter is copied, any other is searched in A_0. Beside what stands for a
+// letter goes the letter's place. The answer is the number of bytes written. The Rust searches every letter, and replaces it within
+// the text, which moves all that is behind it.
 #[inline(always)]
-fn normalize_text(text: &[u8], out: &mut [u8; WORK_SIZE]) -> usize
+fn normalize_text(
+    text: &[u8],
+    places: &[u8; WORK_SIZE],
+    out: &mut [u8; WORK_SIZE],
+    out_places: &mut [u8; WORK_SIZE],
+) -> usize
     requires spelt { Spelt text.now }
     requires fits { (length text.now ≤ longest_word) × (length out.old ≡ work_size) }
-    ensures { (cs : Word) → Encodes text.now cs → Normalised cs out.new result }
+    ensures { (ts : List Typed) → Encodes text.now (letters_of ts) → at_letters (letters_of ts) places.now ≡ places_of ts → Normalised ts out.new out_places.new result }
 {
     let mut cursor = 0;
     let mut end = 0;
     while cursor < text.len() {
+        let place = places[cursor];
         let plain = plain_at(text, cursor);
         if plain {
+            out_places[end] = place;
             end = copy_plain(text, cursor, out, end);
             cursor += 2;
             continue;
@@ -73,7 +83,9 @@ fn normalize_text(text: &[u8], out: &mut [u8; WORK_SIZE]) -> usize
         let letter = read_letter(text, cursor);
         let next = cursor + letter.width;
         let class = class_of(letter.code);
+        let start = end;
         end = put_bytes(out, end, given(class, &text[cursor..next]));
+        out_places[start..end].fill(place);
         cursor = next;
     }
     end
@@ -83,24 +95,23 @@ fn normalize_text(text: &[u8], out: &mut [u8; WORK_SIZE]) -> usize
 // given back as it came. The Rust leaves the cursor at the end and its caller sets it back; here it stays
 // in front, and with a new text bra and ket are those of a new environment. The Rust's answer, which is always true, is left out.
 #[inline(always)]
-pub fn r_Normalize_pre(env: Env) -> Env
+pub fn r_Normalize_pre(mut env: Env) -> Env
     requires { Holds env × (env.limit ≤ longest_word) }
-    ensures { (w : Word) → Stands env (started w) → Stands result (started (normalise w)) }
+    ensures { (ts : List Typed) → Stands env (typed_text ts) → Stands result (started (normalise (letters_of ts)) (normal_places ts)) }
 {
-    if all_plain(env.text()) {
-        return env;
+    if !all_plain(env.text()) {
+        let text = env.current;
+        let places = env.places;
+        let end = normalize_text(
+            &text[..env.limit],
+            &places,
+            &mut env.current,
+            &mut env.places,
+        );
+        env.limit = end;
+        env.ket = end;
     }
-    let mut text = [0u8; WORK_SIZE];
-    let end = normalize_text(env.text(), &mut text);
-    Env {
-        cursor: 0,
-        limit: end,
-        limit_backward: 0,
-        bra: 0,
-        ket: end,
-        current: text,
-        endings: 0,
-    }
+    env
 }
 
 // What r_Normalize_post makes of the last letter c, whose bytes are lent.
@@ -166,7 +177,7 @@ fn finish_text(text: &mut [u8], i_word_len: usize)
 #[inline(always)]
 pub fn r_Normalize_post(mut env: Env, i_word_len: usize) -> Env
     requires { (s : Chars) × Stands env s × (length s.text ≤ i_word_len) }
-    ensures { (w : Word) → Stands env (started w) → Stands result (started (finish w)) }
+    ensures { (w : Word) (ps : List ℕ) → Stands env (started w ps) → Stands result (started (finish w) ps) }
 {
     let limit = env.limit;
     finish_text(&mut env.current[0..limit], i_word_len);

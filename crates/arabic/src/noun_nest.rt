@@ -1,5 +1,5 @@
 // The noun's alternatives of item 3: one function for each nest of them.
-ghost use Rattle.std.specs.Prelude.{◌≡◌};
+ghost use Rattle.std.specs.Prelude.{◌≡◌, List, ℕ};
 ghost use Rattle.definition.specs.Tries.{done};
 ghost use Rattle.definition.specs.Kind.{if_open};
 ghost use Rattle.definition.specs.Endings.{Cutting, cut, noun_step2a, noun};
@@ -17,7 +17,7 @@ use snowball::env::Env;
 // Behind Step1b: Step2a, else Step2b, else Step2c1.
 fn after_Step1b(env: Env) -> Tried
     requires { Ready env }
-    ensures { (v : Cutting) → Ends env v → Gives result (after_step1b v) }
+    ensures { (ps : List ℕ) (v : Cutting) → Ends ps env v → Gives ps result (after_step1b v) }
 {
     r_Suffix_Noun_Step2a(env)
         .outcome
@@ -28,7 +28,7 @@ fn after_Step1b(env: Env) -> Tried
 // Step1b and what follows it. Where that fails the cut of Step1b stays.
 fn by_Step1b(env: Env) -> Tried
     requires { Ready env }
-    ensures { (v : Cutting) → Ends env v → Gives result (by_step1b v) }
+    ensures { (ps : List ℕ) (v : Cutting) → Ends ps env v → Gives ps result (by_step1b v) }
 {
     r_Suffix_Noun_Step1b(env).outcome.and_then(after_Step1b)
 }
@@ -36,7 +36,7 @@ fn by_Step1b(env: Env) -> Tried
 // If the word is open, Step2a.
 fn open_Step2a(env: Env, b_is_defined: bool) -> Tried
     requires { Ready env }
-    ensures { (v : Cutting) → Ends env v → Gives result (if_open (kind_of b_is_defined) (cut noun_step2a) v) }
+    ensures { (ps : List ℕ) (v : Cutting) → Ends ps env v → Gives ps result (if_open (kind_of b_is_defined) (cut noun_step2a) v) }
 {
     if b_is_defined {
         return Err(env);
@@ -47,7 +47,7 @@ fn open_Step2a(env: Env, b_is_defined: bool) -> Tried
 // The first alternative that succeeds; the last one, nothing, always does. The Rust's second one, Step1a with its sequel, is left out.
 fn first_cut(env: Env, b_is_defined: bool) -> Env
     requires { Ready env }
-    ensures { (v : Cutting) → Ends env v → (w : Cutting) × ((noun_first (kind_of b_is_defined) v ≡ done w) × Ends result w) }
+    ensures { (ps : List ℕ) (v : Cutting) → Ends ps env v → (w : Cutting) × ((noun_first (kind_of b_is_defined) v ≡ done w) × Ends ps result w) }
 {
     let tried = r_Suffix_Noun_Step2c2(env)
         .outcome
@@ -60,7 +60,7 @@ fn first_cut(env: Env, b_is_defined: bool) -> Env
 // The noun: its first alternative, and then Step3.
 pub fn noun(env: Env, b_is_defined: bool) -> Tried
     requires { Ready env }
-    ensures { (v : Cutting) → Ends env v → Gives result (noun (kind_of b_is_defined) v) }
+    ensures { (ps : List ℕ) (v : Cutting) → Ends ps env v → Gives ps result (noun (kind_of b_is_defined) v) }
 {
     let cut = first_cut(env, b_is_defined);
     r_Suffix_Noun_Step3(cut).outcome

@@ -1,10 +1,11 @@
 // The two halves of a step that changes the front: the row and whether the step takes it, read off the text, and what replaces the row.
-ghost use Rattle.std.specs.Prelude.{◌≡◌, false, ◌≤◌, length, drop};
+ghost use Rattle.std.specs.Prelude.{◌≡◌, false, List, ℕ, ◌≤◌, length, drop};
 ghost use Rattle.definition.specs.Words.{Word};
 ghost use Rattle.definition.specs.Fronts.{PrefixStep, prefix, not_at, Fronting, text, begins_with_any, apply};
 ghost use Rattle.definition.specs.StepRow.{of_front, step_row};
 ghost use Rattle.utf8.specs.Spelt.{Encodes, Spelt};
-ghost use Rattle.arabic.specs.Fronts.{Fronts, GivesFront, Takes, Puts, ChangesInPlace};
+ghost use Rattle.snowball.specs.Stands.{Stands};
+ghost use Rattle.arabic.specs.Fronts.{at_front, GivesText, Takes, Puts, ChangesInPlace};
 ghost use Rattle.arabic.specs.Tried.{IsRule};
 
 use crate::tried::{Searched, Tried, met};
@@ -43,14 +44,15 @@ pub fn front_row(
 }
 
 // Replaces the row at the cursor by what stands for its class, and the cursor goes behind it. With no row the step fails.
+#[inline(always)]
 pub fn replace_front(
     mut env: Env,
     found: Searched<Option<TakenRow>>,
     puts: &[&[u8]],
 ) -> Searched<Tried>
-    requires { (s : PrefixStep) × ((w : Fronting) × (Fronts env w × (Takes s (text w) w.rest env.cursor found × Puts s puts.now))) }
-    ensures { (s : PrefixStep) (w : Fronting) → Fronts env w → Takes s (text w) w.rest env.cursor found → Puts s puts.now
-        → begins_with_any w.rest (not_at s) ≡ false → ChangesInPlace s w → GivesFront result.outcome (apply s w) × (result.row ≡ step_row (of_front s) w.rest) }
+    requires { (s : PrefixStep) × ((w : Fronting) × (((ps : List ℕ) × Stands env (at_front ps w)) × (Takes s (text w) w.rest env.cursor found × Puts s puts.now))) }
+    ensures { (s : PrefixStep) (ps : List ℕ) (w : Fronting) → Stands env (at_front ps w) → Takes s (text w) w.rest env.cursor found → Puts s puts.now
+        → begins_with_any w.rest (not_at s) ≡ false → ChangesInPlace ps s w → GivesText ps result.outcome (apply s w) × (result.row ≡ step_row (of_front s) w.rest) }
 {
     let row = found.row;
     let Some(taken) = found.outcome else {
@@ -77,9 +79,9 @@ pub fn prefix_step(
     guards: &[u8],
     puts: &[&[u8]],
 ) -> Searched<Tried>
-    requires { (s : PrefixStep) × ((w : Fronting) × (Fronts env w × (IsRule (prefix s) table.now.rows.now table.now.lens.now table.now.classes.now guards.now × Puts s puts.now))) }
-    ensures { (s : PrefixStep) (w : Fronting) → Fronts env w → IsRule (prefix s) table.now.rows.now table.now.lens.now table.now.classes.now guards.now → Puts s puts.now
-        → begins_with_any w.rest (not_at s) ≡ false → ChangesInPlace s w → GivesFront result.outcome (apply s w) × (result.row ≡ step_row (of_front s) w.rest) }
+    requires { (s : PrefixStep) × ((w : Fronting) × (((ps : List ℕ) × Stands env (at_front ps w)) × (IsRule (prefix s) table.now.rows.now table.now.lens.now table.now.classes.now guards.now × Puts s puts.now))) }
+    ensures { (s : PrefixStep) (ps : List ℕ) (w : Fronting) → Stands env (at_front ps w) → IsRule (prefix s) table.now.rows.now table.now.lens.now table.now.classes.now guards.now → Puts s puts.now
+        → begins_with_any w.rest (not_at s) ≡ false → ChangesInPlace ps s w → GivesText ps result.outcome (apply s w) × (result.row ≡ step_row (of_front s) w.rest) }
 {
     let found = front_row(env.text(), env.cursor, table, guards);
     replace_front(env, found, puts)

@@ -1,5 +1,5 @@
 // Items 3, 4 and 5 with the cursor put where each begins, and `stem`: all of them, on an environment, with the number of endings cut.
-ghost use Rattle.std.specs.Prelude.{◌≡◌, ◌≤◌, length};
+ghost use Rattle.std.specs.Prelude.{◌≡◌, List, ℕ, ◌≤◌, length};
 ghost use Rattle.definition.specs.Words.{Word};
 ghost use Rattle.definition.specs.Tries.{after};
 ghost use Rattle.definition.specs.Normal.{normalise};
@@ -8,10 +8,13 @@ ghost use Rattle.definition.specs.Fronts.{text, fronts};
 ghost use Rattle.definition.specs.Finish.{finish};
 ghost use Rattle.definition.specs.Stem.{cutting, stem_of, stem, chain};
 ghost use Rattle.snowball.specs.Chars.{started};
-ghost use Rattle.snowball.specs.Stands.{Stands};
+ghost use Rattle.snowball.specs.Stands.{longest_word, Stands};
+ghost use Rattle.places.specs.Places.{Typed, letters_of, normal_places, stem_places};
+ghost use Rattle.arabic.specs.Endings.{left_of};
+ghost use Rattle.arabic.specs.Fronts.{front_places};
 ghost use Rattle.arabic.specs.Contexts.{OneKind};
 ghost use Rattle.arabic.specs.Kinds.{kind_by_verb, kind_of};
-ghost use Rattle.arabic.specs.Texts.{longest_word};
+ghost use Rattle.arabic.specs.Texts.{typed_text, places_by};
 
 use crate::context::{Context, checked};
 use crate::normalize::{r_Normalize_post, r_Normalize_pre};
@@ -21,11 +24,10 @@ use crate::tried::{Counted, left_by};
 use snowball::env::{Env, count_chars};
 
 // Item 3: the endings, backward from the end of the text, counted from 0. The cursor then goes back to the front.
-#[inline(always)]
 fn cut_endings(mut env: Env, context: Context) -> Counted
-    requires { ((w : Word) × Stands env (started w)) × OneKind context }
-    ensures { (w : Word) → Stands env (started w)
-        → Stands result.env (started (maqsura_if_failed (endings (kind_of context.b_is_defined) w) (after (endings (kind_of context.b_is_defined) w)).text))
+    requires { ((w : Word) × ((ps : List ℕ) × Stands env (started w ps))) × OneKind context }
+    ensures { (w : Word) (ps : List ℕ) → Stands env (started w ps)
+        → Stands result.env (left_of ps (maqsura_if_failed (endings (kind_of context.b_is_defined) w) (after (endings (kind_of context.b_is_defined) w)).text))
         × (result.endings ≡ length (after (endings (kind_of context.b_is_defined) w)).cuts) }
 {
     env.endings = 0;
@@ -37,10 +39,10 @@ fn cut_endings(mut env: Env, context: Context) -> Counted
 }
 
 // Item 4: the fronts. The cursor then goes back to the front.
-#[inline(always)]
 fn change_front(env: Env, context: Context) -> Env
-    requires { (w : Word) × Stands env (started w) }
-    ensures { (w : Word) → Stands env (started w) → Stands result (started (text (fronts (kind_by_verb context.b_is_verb) w))) }
+    requires { (w : Word) × ((ps : List ℕ) × Stands env (started w ps)) }
+    ensures { (w : Word) (ps : List ℕ) → Stands env (started w ps)
+        → Stands result (started (text (fronts (kind_by_verb context.b_is_verb) w)) (front_places ps (fronts (kind_by_verb context.b_is_verb) w))) }
 {
     let cursor = env.cursor;
     let mut changed = left_by(prefixes(env, context));
@@ -49,21 +51,20 @@ fn change_front(env: Env, context: Context) -> Env
 }
 
 // Item 5, with as many turns as the text has letters.
-#[inline(always)]
 pub fn finish_letters(env: Env) -> Env
-    requires { (w : Word) × Stands env (started w) }
-    ensures { (w : Word) → Stands env (started w) → Stands result (started (finish w)) }
+    requires { (w : Word) × ((ps : List ℕ) × Stands env (started w ps)) }
+    ensures { (w : Word) (ps : List ℕ) → Stands env (started w ps) → Stands result (started (finish w) ps) }
 {
     let i_word_len = count_chars(env.text());
     r_Normalize_post(env, i_word_len)
 }
 
 // Items 2 to 5, for a word of up to 255 bytes whose kind is known.
-#[inline(always)]
 fn stem_of(env: Env, context: Context) -> Counted
-    requires { ((w : Word) × Stands env (started w)) × (env.limit ≤ longest_word) × OneKind context }
-    ensures { (w : Word) → Stands env (started w) → Stands result.env (started (stem_of (kind_of context.b_is_defined) (normalise w)))
-        × (result.endings ≡ length (cutting (kind_of context.b_is_defined) (normalise w)).cuts) }
+    requires { ((ts : List Typed) × Stands env (typed_text ts)) × (env.limit ≤ longest_word) × OneKind context }
+    ensures { (ts : List Typed) → Stands env (typed_text ts)
+        → Stands result.env (started (stem_of (kind_of context.b_is_defined) (normalise (letters_of ts))) (places_by (kind_of context.b_is_defined) (normalise (letters_of ts)) (normal_places ts)))
+        × (result.endings ≡ length (cutting (kind_of context.b_is_defined) (normalise (letters_of ts))).cuts) }
 {
     let normalised = r_Normalize_pre(env);
     let cut = cut_endings(normalised, context);
@@ -75,10 +76,10 @@ fn stem_of(env: Env, context: Context) -> Counted
 }
 
 // The Rust's stem, on a new environment for a word of up to 255 bytes; and how many endings were cut.
-#[inline(always)]
 pub fn stem(env: Env) -> Counted
-    requires { ((w : Word) × Stands env (started w)) × (env.limit ≤ longest_word) }
-    ensures { (w : Word) → Stands env (started w) → Stands result.env (started (stem w)) × (result.endings ≡ length (chain w)) }
+    requires { ((ts : List Typed) × Stands env (typed_text ts)) × (env.limit ≤ longest_word) }
+    ensures { (ts : List Typed) → Stands env (typed_text ts)
+        → Stands result.env (started (stem (letters_of ts)) (stem_places ts)) × (result.endings ≡ length (chain (letters_of ts))) }
 {
     let context = checked(env.text()).outcome;
     stem_of(env, context)

@@ -1,5 +1,5 @@
 // The two halves of a step that cuts an ending: the row and where the ending begins, read off the text, and the cut.
-ghost use Rattle.std.specs.Prelude.{◌≡◌, ◌≤◌, length, IfSome};
+ghost use Rattle.std.specs.Prelude.{◌≡◌, List, ℕ, ◌≤◌, length, IfSome};
 ghost use Rattle.definition.specs.Words.{Word};
 ghost use Rattle.definition.specs.Endings.{SuffixStep, suffix, Cutting, cut};
 ghost use Rattle.definition.specs.StepRow.{of_ending, step_row};
@@ -31,8 +31,8 @@ pub fn ending(text: &[u8], table: &Among<'_, Backward>, guards: &[u8]) -> Search
 // the step fails, and the environment is as it was.
 pub fn cut_ending(mut env: Env, found: Searched<Option<usize>>) -> Searched<Tried>
     requires { Ready env × IfSome found.outcome (λ place. place ≤ env.limit) }
-    ensures { (s : SuffixStep) (v : Cutting) → Ends env v → TakesEnding s v.text env.limit found
-        → Gives result.outcome (cut s v) × (result.row ≡ step_row (of_ending s) v.text) }
+    ensures { (s : SuffixStep) (ps : List ℕ) (v : Cutting) → Ends ps env v → TakesEnding s v.text env.limit found
+        → Gives ps result.outcome (cut s v) × (result.row ≡ step_row (of_ending s) v.text) }
 {
     let row = found.row;
     let Some(place) = found.outcome else {
@@ -57,7 +57,7 @@ pub fn cut_ending(mut env: Env, found: Searched<Option<usize>>) -> Searched<Trie
 pub fn suffix_step(env: Env, table: &Among<'_, Backward>, guards: &[u8]) -> Searched<Tried>
     requires { Ready env }
     ensures { (s : SuffixStep) → IsRule (suffix s) table.now.rows.now table.now.lens.now table.now.classes.now guards.now
-        → (v : Cutting) → Ends env v → Gives result.outcome (cut s v) × (result.row ≡ step_row (of_ending s) v.text) }
+        → (ps : List ℕ) (v : Cutting) → Ends ps env v → Gives ps result.outcome (cut s v) × (result.row ≡ step_row (of_ending s) v.text) }
 {
     let found = ending(env.text(), table, guards);
     cut_ending(env, found)

@@ -1,5 +1,5 @@
 // Item 3 whole: the verb, else the noun, else a last 0649.
-ghost use Rattle.std.specs.Prelude.{◌≡◌, length};
+ghost use Rattle.std.specs.Prelude.{◌≡◌, List, ℕ, length};
 ghost use Rattle.definition.specs.Words.{Word};
 ghost use Rattle.definition.specs.Tries.{after, if_failed};
 ghost use Rattle.definition.specs.Kind.{if_open};
@@ -19,7 +19,7 @@ use snowball::env::Env;
 // If the word is open, the verb.
 fn open_verb(env: Env, b_is_verb: bool) -> Tried
     requires { Ready env }
-    ensures { (v : Cutting) → Ends env v → Gives result (if_open (kind_by_verb b_is_verb) verb v) }
+    ensures { (ps : List ℕ) (v : Cutting) → Ends ps env v → Gives ps result (if_open (kind_by_verb b_is_verb) verb v) }
 {
     if b_is_verb {
         return verb(env);
@@ -30,17 +30,16 @@ fn open_verb(env: Env, b_is_verb: bool) -> Tried
 // The verb of an open word, else the noun.
 fn verb_or_noun(env: Env, context: Context) -> Tried
     requires { Ready env × OneKind context }
-    ensures { (v : Cutting) → Ends env v → Gives result (if_failed (if_open (kind_of context.b_is_defined) verb v) (noun (kind_of context.b_is_defined))) }
+    ensures { (ps : List ℕ) (v : Cutting) → Ends ps env v → Gives ps result (if_failed (if_open (kind_of context.b_is_defined) verb v) (noun (kind_of context.b_is_defined))) }
 {
     open_verb(env, context.b_is_verb).or_else(|env| noun(env, context.b_is_defined))
 }
 
 // The verb or the noun, and a last 0649 where both have failed. Every ending cut counts, also before a step that fails.
-#[inline(always)]
 pub fn suffixes(env: Env, context: Context) -> Counted
     requires { Ready env × OneKind context }
-    ensures { (w : Word) → Ends env (uncut w)
-        → Stands result.env (at_end (maqsura_if_failed (endings (kind_of context.b_is_defined) w) (after (endings (kind_of context.b_is_defined) w)).text))
+    ensures { (ps : List ℕ) (w : Word) → Ends ps env (uncut w)
+        → Stands result.env (at_end ps (maqsura_if_failed (endings (kind_of context.b_is_defined) w) (after (endings (kind_of context.b_is_defined) w)).text))
         × (result.endings ≡ length (after (endings (kind_of context.b_is_defined) w)).cuts) }
 {
     match verb_or_noun(env, context) {

@@ -1,16 +1,18 @@
 // The entries under the names that C links; include/arabic_stemmer.h declares them. A slice is a pointer and a length.
 #![tactic(auto)]
 
-ghost use Rattle.std.specs.Prelude.{◌≡◌, ◌<◌, length};
+ghost use Rattle.std.specs.Prelude.{◌≡◌, ◌<◌, ◌⊎◌, length};
 ghost use Rattle.definition.specs.Normal.{normalise};
 ghost use Rattle.definition.specs.Finish.{finish};
 ghost use Rattle.definition.specs.Stem.{stem};
 ghost use Rattle.definition.specs.Floating.{without_marks};
-ghost use Rattle.stemmer.specs.Entries.{enough_room, bytes_of, fitting, answer, out_after, kind_answer, Demand3After, FewEndingsOf, version, stem_entry};
-ghost use Rattle.arabic_stemmer.specs.Interface.{told, told_stem, told_kind};
+ghost use Rattle.places.specs.Places.{places};
+ghost use Rattle.stemmer.specs.Entries.{most_bytes, enough_room, letters, bytes_of, fitting, answer, out_after, kind_answer, Demand3After, FewEndingsOf, version, stem_entry};
+ghost use Rattle.stemmer.specs.Numbers.{places_answer, places_entry, numbers_after, PlacedAfter};
+ghost use Rattle.arabic_stemmer.specs.Interface.{told, told_stem, told_places, told_kind};
 
 use arabic::kind::Kind;
-use stemmer::{BadWord, Refusal, Stem};
+use stemmer::{BadWord, Refusal, Stem, StemPlaces};
 
 // Code 0 and the number of bytes written, or a refusal's code and 0.
 #[repr(C)]
@@ -27,6 +29,16 @@ pub struct StemAnswer {
     pub code: u32,
     pub endings: u32,
     pub count: usize,
+}
+
+// The same with the number of the stem's letters, for each of which a place was written; 0 with a refusal.
+#[repr(C)]
+#[derive(Drop)]
+pub struct PlacesAnswer {
+    pub code: u32,
+    pub endings: u32,
+    pub count: usize,
+    pub letters: usize,
 }
 
 // Code 0 and the kind, 0 for open and 1 for defined; or a refusal's code and 0.
@@ -65,6 +77,24 @@ impl From<Result<Stem, Refusal>> for StemAnswer {
     }
 }
 
+impl From<Result<StemPlaces, Refusal>> for PlacesAnswer {
+    ghost from_gives = { λ given answer. answer ≡ told_places given };
+
+    fn from(given: Result<StemPlaces, Refusal>) -> PlacesAnswer {
+        let letters = given.map_or(0, |stem| stem.letters);
+        let answer = StemAnswer::from(given.map(|stem| Stem {
+            count: stem.count,
+            endings: stem.endings,
+        }));
+        PlacesAnswer {
+            code: answer.code,
+            endings: answer.endings,
+            count: answer.count,
+            letters,
+        }
+    }
+}
+
 impl From<Result<Kind, BadWord>> for KindAnswer {
     ghost from_gives = { λ given answer. answer ≡ told_kind given };
 
@@ -92,6 +122,24 @@ pub extern "C" fn arabic_stemmer_stem(word: &[u8], out: &mut [u8]) -> StemAnswer
     ensures out_len_bound { result.code ≡ 3 → length out.old < enough_room }
 {
     stemmer::stem(word, out).into()
+}
+
+// The same, and a place for each letter of the stem.
+#[unsafe(no_mangle)]
+pub extern "C" fn arabic_stemmer_stem_places(
+    word: &[u8],
+    out: &mut [u8],
+    numbers: &mut [u16],
+) -> PlacesAnswer
+    ensures value { result ≡ told_places (places_entry word.now (length out.old) (length numbers.old)) }
+    ensures out_after { out.new ≡ out_after (places_answer word.now (length out.old) (length numbers.old)) (bytes_of (without_marks stem) word.now) out.old }
+    ensures numbers_after { numbers.new ≡ numbers_after (places_answer word.now (length out.old) (length numbers.old)) (places (letters word.now)) numbers.old }
+    ensures demand3after { Demand3After word.now (places_answer word.now (length out.old) (length numbers.old)) out.new }
+    ensures placed_after { PlacedAfter word.now result.code numbers.new }
+    ensures few_endings_of { FewEndingsOf word.now result.endings }
+    ensures room_bound { result.code ≡ 3 → (length out.old < enough_room) ⊎ (length numbers.old < most_bytes) }
+{
+    stemmer::stem_places(word, out, numbers).into()
 }
 
 // The word normalised without its floating marks.

@@ -1,5 +1,6 @@
 // The edges of document 01. Each line has a name, the answer's code and count, and every byte of the output and of four more behind
-// it, in hexadecimal. Before the call the byte at i is i % 251.
+// it, in hexadecimal. Before the call the byte at i is i % 251. Where numbers are lent they follow, with four behind them, in
+// hexadecimal too: before the call the number at i is hexadecimal 1000 + i.
 #![tactic(auto)]
 
 ghost use Rattle.std.specs.Prelude.{◌≡◌, ◌≤◌};
@@ -8,7 +9,7 @@ ghost use Rattle.edges.specs.declared.TheConstants.{LARGEST};
 use arabic::kind::Kind;
 use std::io::Write;
 use std::{array, fmt, io};
-use stemmer::{BadWord, LONGEST, ROOM, Refusal, Stem};
+use stemmer::{BadWord, LONGEST, PLACES_ROOM, ROOM, Refusal, Stem, StemPlaces};
 
 // The largest output that is lent, and how many bytes behind an output are printed with it.
 const LARGEST: usize = 396;
@@ -98,6 +99,66 @@ impl fmt::Display for Lent {
     }
 }
 
+// Numbers in hexadecimal, four digits each.
+#[derive(Clone, Copy)]
+struct HexNumbers<'a>(&'a [u16]);
+
+impl fmt::Display for HexNumbers<'_> {
+    fn fmt<W: fmt::Write>(&self, f: &mut fmt::Formatter<W>) -> fmt::Result {
+        for number in self.0 {
+            write!(f, "{number:04x}")?;
+        }
+        Ok(())
+    }
+}
+
+// The code and the count of the places entry's answer, the number of endings, and that of letters.
+#[derive(Clone, Copy)]
+struct Placed(Result<StemPlaces, Refusal>);
+
+impl fmt::Display for Placed {
+    fn fmt<W: fmt::Write>(&self, f: &mut fmt::Formatter<W>) -> fmt::Result {
+        match self.0 {
+            Ok(
+                StemPlaces {
+                    count,
+                    endings,
+                    letters,
+                },
+            ) => write!(f, "0 {count} {endings} {letters}"),
+            Err(refusal) => write!(f, "{} 0 0 0", refusal.code()),
+        }
+    }
+}
+
+// A buffer of room numbers that the places entry is lent, with those behind it.
+#[derive(Drop)]
+struct LentNumbers {
+    numbers: [u16; SPACE],
+    room: usize,
+    ghost within: { room ≤ LARGEST },
+}
+
+impl LentNumbers {
+    // The buffer before a call: no two numbers are alike, and none is a place.
+    fn new(room: usize) -> LentNumbers
+        requires { room ≤ LARGEST }
+        ensures { result.room ≡ room }
+    {
+        LentNumbers {
+            numbers: array::from_fn(|i| 0x1000 + i as u16),
+            room,
+        }
+    }
+}
+
+// Its room numbers and those behind them.
+impl fmt::Display for LentNumbers {
+    fn fmt<W: fmt::Write>(&self, f: &mut fmt::Formatter<W>) -> fmt::Result {
+        HexNumbers(&self.numbers[..self.room + BEHIND]).fmt(f)
+    }
+}
+
 // A line: the name, what call writes of its answer, and the output afterwards.
 fn line<W: Write, F: FnOnce(&mut W, &mut [u8]) -> io::Result<()>>(
     output: &mut W,
@@ -120,6 +181,19 @@ fn stem(output: &mut impl Write, name: &str, word: &[u8], lent: Lent) -> io::Res
         lent,
         |output, out| write!(output, "{}", Stemmed(stemmer::stem(word, out))),
     )
+}
+
+// The answer, the output, and the numbers.
+fn stem_places(
+    output: &mut impl Write,
+    name: &str,
+    word: &[u8],
+    mut lent: Lent,
+    mut places: LentNumbers,
+) -> io::Result<()> {
+    let (room, most) = (lent.room, places.room);
+    let told = stemmer::stem_places(word, &mut lent.bytes[..room], &mut places.numbers[..most]);
+    writeln!(output, "{name}{} {lent} {places}", Placed(told))
 }
 
 // A line of an entry that answers a count.
@@ -444,6 +518,180 @@ fn too_long_with_marks(output: &mut impl Write) -> io::Result<()> {
     kind(output, "kind, 86 marks: ", &marks)
 }
 
+// Outputs and buffers of numbers that the stem and its places just fit, or do not.
+fn room_for_places(output: &mut impl Write, word: &[u8]) -> io::Result<()> {
+    stem_places(
+        output,
+        "places, room for 8 and 4: ",
+        word,
+        Lent::new(8),
+        LentNumbers::new(4),
+    )?;
+    stem_places(
+        output,
+        "places, room for 16 and 9: ",
+        word,
+        Lent::new(16),
+        LentNumbers::new(9),
+    )?;
+    stem_places(
+        output,
+        "places, room for 7 and 4: ",
+        word,
+        Lent::new(7),
+        LentNumbers::new(4),
+    )?;
+    stem_places(
+        output,
+        "places, room for 8 and 3: ",
+        word,
+        Lent::new(8),
+        LentNumbers::new(3),
+    )?;
+    stem_places(
+        output,
+        "places, no room: ",
+        word,
+        Lent::new(0),
+        LentNumbers::new(0),
+    )
+}
+
+// A mark, a ligature, two letters that become one and keep the second's place, two that keep the first's, and letters of two, three
+// and four bytes behind a deleted one.
+fn kept_places(output: &mut impl Write) -> io::Result<()> {
+    stem_places(
+        output,
+        "places, a mark in the article: ",
+        b"\xD8\xA7\xEF\xB9\xBF\xD9\x84\xD9\x88\xD8\xAC\xD9\x87",
+        Lent::new(8),
+        LentNumbers::new(4),
+    )?;
+    stem_places(
+        output,
+        "places, 0645 FEFB 0645: ",
+        b"\xD9\x85\xEF\xBB\xBB\xD9\x85",
+        Lent::new(8),
+        LentNumbers::new(4),
+    )?;
+    stem_places(
+        output,
+        "places, 0623 0623 0645 0645: ",
+        b"\xD8\xA3\xD8\xA3\xD9\x85\xD9\x85",
+        Lent::new(8),
+        LentNumbers::new(4),
+    )?;
+    stem_places(
+        output,
+        "places, 0623 0624 0645 0645: ",
+        b"\xD8\xA3\xD8\xA4\xD9\x85\xD9\x85",
+        Lent::new(8),
+        LentNumbers::new(4),
+    )?;
+    stem_places(
+        output,
+        "places, ! 0645 FEB0 1F600 0645: ",
+        b"!\xD9\x85\xEF\xBA\xB0\xF0\x9F\x98\x80\xD9\x85",
+        Lent::new(12),
+        LentNumbers::new(4),
+    )?;
+    stem_places(
+        output,
+        "places, 0628 0646 064A: ",
+        b"\xD8\xA8\xD9\x86\xD9\x8A",
+        Lent::new(8),
+        LentNumbers::new(4),
+    )
+}
+
+// As many letters as there can be, and stems that are longer than their words.
+fn many_places(output: &mut impl Write) -> io::Result<()> {
+    let latin = [b'a'; LONGEST + 1];
+    let long = &latin[..LONGEST];
+    let growing = ligatures();
+    stem_places(
+        output,
+        "places, 255 bytes of a: ",
+        long,
+        Lent::new(ROOM),
+        LentNumbers::new(PLACES_ROOM),
+    )?;
+    stem_places(
+        output,
+        "places, 255 bytes of a, one number short: ",
+        long,
+        Lent::new(LONGEST),
+        LentNumbers::new(PLACES_ROOM - 1),
+    )?;
+    stem_places(
+        output,
+        "places, 85 times FEFB: ",
+        &growing,
+        Lent::new(338),
+        LentNumbers::new(169),
+    )?;
+    stem_places(
+        output,
+        "places, 85 times FEFB, one byte short: ",
+        &growing,
+        Lent::new(337),
+        LentNumbers::new(169),
+    )?;
+    stem_places(
+        output,
+        "places, 85 times FEFB, one number short: ",
+        &growing,
+        Lent::new(338),
+        LentNumbers::new(168),
+    )
+}
+
+// Bad words, and words with no letter.
+fn no_places(output: &mut impl Write) -> io::Result<()> {
+    stem_places(
+        output,
+        "places, 256 bytes of a: ",
+        &[b'a'; LONGEST + 1],
+        Lent::new(4),
+        LentNumbers::new(2),
+    )?;
+    stem_places(
+        output,
+        "places, C0 80: ",
+        b"\xC0\x80",
+        Lent::new(4),
+        LentNumbers::new(2),
+    )?;
+    stem_places(
+        output,
+        "places, ED A0 80, no room: ",
+        b"\xED\xA0\x80",
+        Lent::new(0),
+        LentNumbers::new(0),
+    )?;
+    stem_places(
+        output,
+        "places, empty word, no room: ",
+        b"",
+        Lent::new(0),
+        LentNumbers::new(0),
+    )?;
+    stem_places(
+        output,
+        "places, 85 marks, no room: ",
+        &marks::<LONGEST>(),
+        Lent::new(0),
+        LentNumbers::new(0),
+    )?;
+    stem_places(
+        output,
+        "places, !, room for 4 and 2: ",
+        b"!",
+        Lent::new(4),
+        LentNumbers::new(2),
+    )
+}
+
 fn main(rt: HostRuntime) -> io::Result<()> {
     let book = b"\xD8\xA7\xD9\x84\xD9\x83\xD8\xAA\xD8\xA7\xD8\xA8";
     let mut output = rt.stdout();
@@ -463,5 +711,9 @@ fn main(rt: HostRuntime) -> io::Result<()> {
     )?;
     near_marks(&mut output)?;
     marks_alone(&mut output)?;
-    too_long_with_marks(&mut output)
+    too_long_with_marks(&mut output)?;
+    room_for_places(&mut output, book)?;
+    kept_places(&mut output)?;
+    many_places(&mut output)?;
+    no_places(&mut output)
 }

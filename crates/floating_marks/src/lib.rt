@@ -41,16 +41,19 @@ pub fn has_mark(word: &[u8]) -> bool
     word.contains(&0xEF) && word.contains(&0xB9) && search_mark(word)
 }
 
-// Copies the word without its floating marks to the front of out. The answer is the number of bytes written.
-pub fn take_out(word: &[u8], out: &mut [u8]) -> usize
-    requires { Spelt word.now × (length word.now ≤ length out.old) }
-    ensures { (cs : Word) → Encodes word.now cs → TakenOut cs out.new result }
+// Copies a word of up to 255 bytes without its floating marks to the front of out, and beside the first byte of each letter the byte of the
+// word where it begins to places. The answer is the number of bytes written.
+pub fn take_out(word: &[u8], out: &mut [u8], places: &mut [u8]) -> usize
+    requires spelt { Spelt word.now }
+    requires fits { (length word.now ≤ 255) × (length word.now ≤ length out.old) × (length word.now ≤ length places.old) }
+    ensures { (cs : Word) → Encodes word.now cs → TakenOut cs out.new places.new result }
 {
     let mut cursor = 0;
     let mut end = 0;
     while cursor < word.len() {
         let letter = read_letter(word, cursor);
         if !is_mark(letter.code) {
+            places[end] = cursor as u8;
             end = put_letter(out, end, letter.code);
         }
         cursor += letter.width;

@@ -1,9 +1,9 @@
 // The row of each step of the stemmer in one word: 18 numbers parted by spaces. The kind check and each ending get the word as it is; the
 // fronts follow each other, each on what the one before it left.
-ghost use Rattle.std.specs.Prelude.{◌≡◌, Ok};
+ghost use Rattle.std.specs.Prelude.{◌≡◌, List, ℕ, Ok};
 ghost use Rattle.definition.specs.Fronts.{Fronting};
 ghost use Rattle.definition.specs.Tries.{Try};
-ghost use Rattle.arabic.specs.Fronts.{GivesFront, ReadyFront};
+ghost use Rattle.arabic.specs.Fronts.{GivesText, ReadyFront};
 ghost use Rattle.stemmer.specs.Entries.{checked};
 
 use arabic::context::{Context, checked, r_Prefix_Step4_Verb};
@@ -30,7 +30,7 @@ struct Word<'a> {
 
 // The environment that a front's step leaves for the next one.
 fn left_for_next(tried: Tried) -> Env
-    requires { (y : Try Fronting) × GivesFront tried y }
+    requires { (ps : List ℕ) × ((y : Try Fronting) × GivesText ps tried y) }
     ensures { ReadyFront result }
 {
     left_by(tried)
@@ -49,7 +49,7 @@ impl<'a> Word<'a> {
 
     // The word in a new environment, with the cursor in front.
     fn at_front(&self) -> Env
-        ensures { (w : Letters) × Stands result (started w) }
+        ensures { (w : Letters) × ((ps : List ℕ) × Stands result (started w ps)) }
     {
         Env::create(self.bytes)
     }

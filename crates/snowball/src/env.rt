@@ -4,16 +4,17 @@ ghost use Rattle.std.specs.Result.{IfErr, is_ok};
 ghost use Rattle.utf8.specs.Utf8.{Scalars, encode};
 ghost use Rattle.utf8.specs.Places.{starts, leads, NextStart, LastStart};
 ghost use Rattle.snowball.specs.Match.{stands_at};
-ghost use Rattle.snowball.specs.Chars.{Chars, started, with_cursor, eq_s};
-ghost use Rattle.snowball.specs.Stands.{work_size, Stands, Holds, SameMarks, Sliced, handed_back};
+ghost use Rattle.snowball.specs.Chars.{Chars, fresh, with_cursor, eq_s};
+ghost use Rattle.snowball.specs.Stands.{work_size, longest_word, Stands, Holds, SameMarks, Sliced, handed_back};
 ghost use Rattle.snowball.specs.Bytes.{Created, Replaced};
 
 // The bytes of the work array: a word of 255 bytes has at most so many when it is normalised.
 pub const WORK_SIZE: usize = 340;
 
 // The Rust's SnowballEnv: a text, and places in it. The text is the first limit bytes of current: in the Rust limit is
-// always the length of current where Arabic is stemmed. The number of endings that were cut is not in the Rust: a step that
-// cuts adds to it; of the functions here, only those that leave the environment as it is promise it.
+// always the length of current where Arabic is stemmed. Two fields are not in the Rust. The number of endings that were cut: a
+// step that cuts adds to it; of the functions here, only those that leave the environment as it is promise it. And places: beside
+// the first byte of each letter of the text stands the byte of the typed word where the letter begins that it came from.
 #[derive(Drop)]
 pub struct Env {
     pub cursor: usize,
@@ -21,8 +22,9 @@ pub struct Env {
     pub limit_backward: usize,
     pub bra: usize,
     pub ket: usize,
-    pub current: [u8; WORK_SIZE],
     pub endings: u32,
+    pub current: [u8; WORK_SIZE],
+    pub places: [u8; WORK_SIZE],
 }
 
 // The Rust's is_char_boundary, asked of a byte: whether a letter starts with it.
@@ -84,11 +86,22 @@ pub fn stands_at(text: &[u8], cursor: usize, key: &[u8]) -> bool
     cursor < text.len() && text[cursor..].starts_with(key)
 }
 
+// The places of a word as it is typed: each byte's is its own.
+fn own_places() -> [u8; WORK_SIZE]
+    ensures { (k : ℕ) → k < longest_word → get_or result k 0 ≡ k }
+{
+    let mut places = [0; WORK_SIZE];
+    for place in 0..255u8 {
+        places[usize::from(place)] = place;
+    }
+    places
+}
+
 impl Env {
-    // The Rust's create: the word's bytes, with the cursor in front and the whole word from bra to ket.
+    // The Rust's create: the word's bytes, with the cursor in front and the whole word from bra to ket. Each byte's place is its own.
     pub fn create(word: &[u8]) -> Env
-        requires { length word.now ≤ work_size }
-        ensures { Created word.now result × ((cs : List ℕ) → Scalars cs → word.now ≡ encode cs → Stands result (started cs)) }
+        requires { length word.now ≤ longest_word }
+        ensures { Created word.now result × ((cs : List ℕ) → Scalars cs → word.now ≡ encode cs → Stands result (fresh cs)) }
     {
         let len = word.len();
         let mut current = [0u8; WORK_SIZE];
@@ -99,8 +112,9 @@ impl Env {
             limit_backward: 0,
             bra: 0,
             ket: len,
-            current,
             endings: 0,
+            current,
+            places: own_places(),
         }
     }
 
@@ -112,11 +126,11 @@ impl Env {
         &self.current[..self.limit]
     }
 
-    // The Rust's replace_s: the bytes from bra to ket are replaced by s. A cursor at ket or behind it moves with the
-    // text, one strictly inside goes to bra, any other stays.
+    // The Rust's replace_s: the bytes from bra to ket are replaced by s, which has at most as many. A cursor at ket or behind it
+    // moves with the text, one strictly inside goes to bra, any other stays. As many places as bytes go are taken out at bra, so
+    // that s has those of the last bytes that it replaces.
     fn replace_s(mut self, bra: usize, ket: usize, s: &[u8]) -> Env
-        requires { (self.limit ≤ work_size) × (self.cursor ≤ self.limit) × (bra ≤ ket) × (ket ≤ self.limit)
-            × (self.limit - (ket - bra) + length s.now ≤ work_size) }
+        requires { (self.limit ≤ work_size) × (self.cursor ≤ self.limit) × (bra + length s.now ≤ ket) × (ket ≤ self.limit) }
         ensures { Replaced self bra ket s.now result }
     {
         let limit = self.limit;
@@ -124,6 +138,7 @@ impl Env {
         let end = bra + s.len();
         self.current.copy_within(ket..limit, end);
         self.current[bra..end].copy_from_slice(s);
+        self.places.copy_within(ket - s.len()..limit, bra);
         self.cursor = if self.cursor >= ket {
             self.cursor - cut + s.len()
         } else {
@@ -135,8 +150,7 @@ impl Env {
 
     // The Rust's slice_from: the letters from bra to ket are replaced by those of s.
     pub fn slice_from(self, s: &[u8]) -> Env
-        requires { Holds self × (self.bra ≤ self.ket) × (self.ket ≤ self.limit)
-            × (self.limit - (self.ket - self.bra) + length s.now ≤ work_size) }
+        requires { Holds self × (self.bra + length s.now ≤ self.ket) × (self.ket ≤ self.limit) }
         ensures { SameMarks self result × ((cs : List ℕ) → Scalars cs → s.now ≡ encode cs → Sliced self cs result) }
     {
         let bra = self.bra;

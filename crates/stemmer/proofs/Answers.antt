@@ -42,7 +42,7 @@ module _ (word : List ℕ) where
   accepted h e = rw (le-ltb most_bytes (length word) h, e) refl
 
 -- ---- a well-formed word's letters, and an accepted word's length
-letters_are : (word cs : List ℕ) → decode word ≡ some cs → letters word ≡ cs
+pub letters_are : (word cs : List ℕ) → decode word ≡ some cs → letters word ≡ cs
 unfolding letters
 letters_are word cs e = rw e refl
 
@@ -82,7 +82,7 @@ module _ (word : List ℕ) (e : checked word ≡ Ok tt) where
   spelling = formed_spelling word formed
 
 -- ---- code 3 says that the output is shorter than the result
-no_room : (n room : ℕ) → n ≤ enough_room → code_of (fitting n room) ≡ 3 → room < enough_room
+pub no_room : (n room : ℕ) → n ≤ enough_room → code_of (fitting n room) ≡ 3 → room < enough_room
 unfolding fitting
 no_room n room h z = by (ltb room n)
     (λ t. omega (arith, ltb-true room n t))
@@ -103,7 +103,7 @@ pub over_long : (f : Word → Word) (word : List ℕ) (room : ℕ) → most_byte
 over_long f word room h = after f word room (Err TooLong) (too_long word h)
 
 -- a code is a refusal's or 0
-bad_word : (e : BadWord) → refusal_code (Bad e) ≡ 3 → ⊥
+pub bad_word : (e : BadWord) → refusal_code (Bad e) ≡ 3 → ⊥
 bad_word TooLong z = omega arith
 bad_word NotWellFormed z = omega arith
 
@@ -137,10 +137,10 @@ module _ (f : Word → Word) (word old : List ℕ) where
       }
 
   -- the text of an environment that stands for what f makes of the word's letters, delivered
-  pub delivered : Ok tt ≡ checked word → (v : Env) → Stands v (started (f (letters word))) → (text : List ℕ) → text ≡ take v.limit v.current → (r : Answer) (new : List ℕ)
+  pub delivered : Ok tt ≡ checked word → (v : Env) (ps : List ℕ) → Stands v (started (f (letters word)) ps) → (text : List ℕ) → text ≡ take v.limit v.current → (r : Answer) (new : List ℕ)
       → r ≡ fitting (length text) (length old) → new ≡ out_after r text old → Promised r new
   unfolding bytes_of
-  delivered c v st text t r new a o =
+  delivered c v ps st text t r new a o =
       let b : text ≡ bytes_of f word = t ∙ st.bytes in
       let fits : r ≡ fitting (length (bytes_of f word)) (length old) = a ∙ ap (λ (bs : List ℕ). fitting (length bs) (length old)) b in
       let q : r ≡ answer f word (length old) = fits ∙ sym (after f word (length old) (Ok tt) (sym c)) in
@@ -183,7 +183,7 @@ front f word old (Ok n) e z = take_at (bytes_of f word) (drop n old) n (count_is
 front f word old (Err x) e z = absurd (refused_code x z)
 
 -- demand 3, from the other promises of the stem entry
-owed : (word old new : List ℕ) (a : Answer) → Promised (without_marks stem) word old a new → Demand3After word a new
+pub owed : (word old new : List ℕ) (a : Answer) → Promised (without_marks stem) word old a new → Demand3After word a new
 unfolding bytes_of
 owed word old new a p = λ w d z. (
   without_marks stem w,

@@ -2,6 +2,8 @@
 pub mod Main
 pub mod Answers
 pub mod Without
+pub mod Numbering
+pub mod Placing
 pub mod Blocks
 pub mod Depends
 pub mod Marks

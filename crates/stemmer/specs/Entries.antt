@@ -102,7 +102,7 @@ answer f word room = after_checks (checked word) (fitting (length (bytes_of f wo
 -- It takes each accepted word, and gives an environment that stands for what f makes of the word's letters. pre says which it takes, post what it gives for one.
 pub record Works (pre : Bor (List ℕ) → Type 0) (post : Bor (List ℕ) → Env → Type 0) (f : Word → Word) : Type 0 where
   pub takes : (word : Bor (List ℕ)) → checked word.now ≡ Ok tt → pre word
-  pub gives : (word : Bor (List ℕ)) (env : Env) → checked word.now ≡ Ok tt → post word env → Stands env (started (f (letters word.now)))
+  pub gives : (word : Bor (List ℕ)) (env : Env) → checked word.now ≡ Ok tt → post word env → (ps : List ℕ) × Stands env (started (f (letters word.now)) ps)
 
 -- ---- the output
 

@@ -11,4 +11,4 @@ word_text NotWellFormed = codes "the word is not well-formed UTF-8"
 
 abbrev pub refusal_text : Refusal → List ℕ
 refusal_text (Bad e) = word_text e
-refusal_text NoRoom = codes "the output is too short for the result"
+refusal_text NoRoom = codes "what is lent for the result is too short"

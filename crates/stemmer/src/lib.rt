@@ -1,24 +1,29 @@
 // The entries: checking a word, working out what is asked of it, delivering the result. Each takes any bytes and any output.
 #![tactic(auto)]
 
+mod numbers;
 mod outcome;
 
-ghost use Rattle.std.specs.Prelude.{◌≡◌, ◌<◌, ◌≤◌, length};
+ghost use Rattle.std.specs.Prelude.{◌≡◌, List, ℕ, ◌<◌, ◌≤◌, ◌⊎◌, length};
 ghost use Rattle.definition.specs.Words.{Word};
 ghost use Rattle.definition.specs.Normal.{normalise};
 ghost use Rattle.definition.specs.Finish.{finish};
 ghost use Rattle.definition.specs.Stem.{stem};
 ghost use Rattle.definition.specs.Floating.{unmarked, without_marks};
+ghost use Rattle.places.specs.Places.{typed, marks_out, places};
 ghost use Rattle.snowball.specs.Chars.{started};
 ghost use Rattle.snowball.specs.Stands.{Stands};
+ghost use Rattle.arabic.specs.Texts.{typed_text};
 ghost use Rattle.stemmer.specs.Entries.{code_of, count_of, endings_of, most_bytes, enough_room, letters, bytes_of, checked, fitting, answer, out_after, part_after, Works, without_endings, kind_answer, Demand3After, FewEndingsOf, version, stem_answer, stem_bytes, stem_entry};
+ghost use Rattle.stemmer.specs.Numbers.{places_answer, places_entry, numbers_after, endings_in, PlacedAfter};
 
 use arabic::kind::{Kind, kind_of};
 use arabic::normalize::r_Normalize_pre;
 use arabic::stem::finish_letters;
 use floating_marks::{has_mark, take_out};
-pub use outcome::{BadWord, Refusal, Stem};
-use snowball::env::Env;
+use numbers::put_numbers;
+pub use outcome::{BadWord, Refusal, Stem, StemPlaces};
+use snowball::env::{Env, count_chars};
 use utf8::well_formed;
 
 // The most bytes that a word may have.
@@ -26,6 +31,9 @@ pub const LONGEST: usize = 255;
 
 // An output of so many bytes is long enough for every result.
 pub const ROOM: usize = 340;
+
+// And a buffer of so many numbers for the places of every stem's letters.
+pub const PLACES_ROOM: usize = LONGEST;
 
 // Checking: the word's length, and then its bytes. An accepted word is refused by no entry but for the room.
 #[tactic(auto, unfolding(crate::specs::Entries::checked))]
@@ -50,7 +58,7 @@ fn unmarked<'a>(word: &'a [u8], room: &'a mut [u8]) -> &'a [u8]
     if !has_mark(word) {
         return word;
     }
-    let count = take_out(word, room);
+    let count = take_out(word, room, &mut [0; LONGEST]);
     &room[..count]
 }
 
@@ -58,18 +66,40 @@ fn unmarked<'a>(word: &'a [u8], room: &'a mut [u8]) -> &'a [u8]
 #[tactic(auto, using(crate::proofs::Answers::short))]
 fn typed_env(word: &[u8]) -> Env
     requires { checked word.now ≡ Ok tt }
-    ensures { Stands result (started (letters word.now)) × (result.limit ≤ most_bytes) }
+    ensures { Stands result (typed_text (typed (letters word.now))) × (result.limit ≤ most_bytes) }
 {
     Env::create(word)
 }
 
-// And for the word without its floating marks.
-#[tactic(auto, using(crate::proofs::Answers::short, crate::proofs::Without::unmarked_short))]
+// And for the word without its floating marks: every letter that is left keeps its place.
+#[tactic(auto, using(crate::proofs::Answers::short, crate::proofs::Without::spelt))]
 fn unmarked_env(word: &[u8]) -> Env
     requires { checked word.now ≡ Ok tt }
-    ensures { Stands result (started (unmarked (letters word.now))) × (result.limit ≤ most_bytes) }
+    ensures { Stands result (typed_text (marks_out (typed (letters word.now)))) × (result.limit ≤ most_bytes) }
 {
-    Env::create(unmarked(word, &mut [0; LONGEST]))
+    let mut env = Env::create(word);
+    if has_mark(word) {
+        let count = take_out(word, &mut env.current, &mut env.places);
+        env.limit = count;
+        env.ket = count;
+    }
+    env
+}
+
+// The word normalised without its floating marks: item 2 alone.
+fn normalised_env(word: &[u8]) -> Env
+    requires { checked word.now ≡ Ok tt }
+    ensures { (ps : List ℕ) × Stands result (started (without_marks normalise (letters word.now)) ps) }
+{
+    r_Normalize_pre(unmarked_env(word))
+}
+
+// The word finished: item 5 on the word as it is typed.
+fn finished_env(word: &[u8]) -> Env
+    requires { checked word.now ≡ Ok tt }
+    ensures { (ps : List ℕ) × Stands result (started (finish (letters word.now)) ps) }
+{
+    finish_letters(typed_env(word))
 }
 
 // Delivering: the text to the front of out, if out has room for it. The answer is how many bytes it has.
@@ -86,7 +116,36 @@ fn deliver(text: &[u8], out: &mut [u8]) -> Result<usize, Refusal>
     Ok(count)
 }
 
-// The stem of the word without its floating marks, and how many endings were cut. An output of ROOM bytes is always long enough.
+// The stem of the word without its floating marks, how many endings were cut, and in front of numbers a place for each letter of the stem. An
+// output of ROOM bytes and PLACES_ROOM numbers are always enough. Where one of the two is too short neither is written.
+pub fn stem_places(word: &[u8], out: &mut [u8], numbers: &mut [u16]) -> Result<StemPlaces, Refusal>
+    ensures value { result ≡ places_entry word.now (length out.old) (length numbers.old) }
+    ensures out_after { out.new ≡ out_after (places_answer word.now (length out.old) (length numbers.old)) (stem_bytes word.now) out.old }
+    ensures numbers_after { numbers.new ≡ numbers_after (places_answer word.now (length out.old) (length numbers.old)) (places (letters word.now)) numbers.old }
+    ensures demand3after { Demand3After word.now (places_answer word.now (length out.old) (length numbers.old)) out.new }
+    ensures placed_after { PlacedAfter word.now (code_of result) numbers.new }
+    ensures few_endings_of { FewEndingsOf word.now (endings_in result) }
+    ensures room_bound { code_of result ≡ 3 → (length out.old < enough_room) ⊎ (length numbers.old < most_bytes) }
+{
+    check_word(word)?;
+    let found = arabic::stem::stem(unmarked_env(word));
+    let current = found.env.current;
+    let beside = found.env.places;
+    let text = &current[..found.env.limit];
+    let letters = count_chars(text);
+    if letters > numbers.len() {
+        return Err(Refusal::NoRoom);
+    }
+    let count = deliver(text, out)?;
+    put_numbers(text, &beside, numbers);
+    Ok(StemPlaces {
+        count,
+        endings: found.endings,
+        letters,
+    })
+}
+
+// The same without the places. An output of ROOM bytes is always long enough.
 pub fn stem(word: &[u8], out: &mut [u8]) -> Result<Stem, Refusal>
     ensures value { result ≡ stem_entry word.now (length out.old) }
     ensures out_after { out.new ≡ out_after (answer (without_marks stem) word.now (length out.old)) (bytes_of (without_marks stem) word.now) out.old }
@@ -94,11 +153,9 @@ pub fn stem(word: &[u8], out: &mut [u8]) -> Result<Stem, Refusal>
     ensures few_endings_of { FewEndingsOf word.now (endings_of result) }
     ensures out_len_bound { code_of result ≡ 3 → length out.old < enough_room }
 {
-    check_word(word)?;
-    let found = arabic::stem::stem(unmarked_env(word));
-    deliver(found.env.text(), out).map(|count| Stem {
-        count,
-        endings: found.endings,
+    stem_places(word, out, &mut [0; PLACES_ROOM]).map(|placed| Stem {
+        count: placed.count,
+        endings: placed.endings,
     })
 }
 
@@ -131,22 +188,22 @@ fn answered<F: FnOnce(&[u8]) -> Env>(word: &[u8], out: &mut [u8], work: F) -> Re
     deliver(work(word).text(), out)
 }
 
-// The word normalised without its floating marks: item 2 alone. An output of ROOM bytes is always long enough.
+// The word normalised without its floating marks. An output of ROOM bytes is always long enough.
 pub fn normalise(word: &[u8], out: &mut [u8]) -> Result<usize, Refusal>
     ensures value { result ≡ answer (without_marks normalise) word.now (length out.old) }
     ensures out_after { out.new ≡ out_after (answer (without_marks normalise) word.now (length out.old)) (bytes_of (without_marks normalise) word.now) out.old }
     ensures out_len_bound { code_of result ≡ 3 → length out.old < enough_room }
 {
-    answered(word, out, |word| r_Normalize_pre(unmarked_env(word)))
+    answered(word, out, normalised_env)
 }
 
-// The word finished: item 5 on the word as given. An output of ROOM bytes is always long enough.
+// The word finished, as it is typed. An output of ROOM bytes is always long enough.
 pub fn finish(word: &[u8], out: &mut [u8]) -> Result<usize, Refusal>
     ensures value { result ≡ answer finish word.now (length out.old) }
     ensures out_after { out.new ≡ out_after (answer finish word.now (length out.old)) (bytes_of finish word.now) out.old }
     ensures out_len_bound { code_of result ≡ 3 → length out.old < enough_room }
 {
-    answered(word, out, |word| finish_letters(typed_env(word)))
+    answered(word, out, finished_env)
 }
 
 // The kind of the word without its floating marks: item 1.

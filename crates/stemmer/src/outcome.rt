@@ -14,6 +14,14 @@ pub struct Stem {
     pub endings: u32,
 }
 
+// The same with the number of the stem's letters, for each of which a place was written.
+#[derive(Clone, Copy, Debug, PartialEq, Eq)]
+pub struct StemPlaces {
+    pub count: usize,
+    pub endings: u32,
+    pub letters: usize,
+}
+
 // Why a word is refused.
 #[derive(Clone, Copy, Debug, PartialEq, Eq)]
 pub enum BadWord {
@@ -21,7 +29,7 @@ pub enum BadWord {
     NotWellFormed,
 }
 
-// Why an entry with an output refuses: for the word, or because the output is too short. A refusal leaves the output as it was.
+// Why an entry that writes refuses: for the word, or because what is lent to be written is too short. A refusal leaves it as it was.
 #[derive(Clone, Copy, Debug, PartialEq, Eq)]
 pub enum Refusal {
     Bad(BadWord),
@@ -75,7 +83,7 @@ impl fmt::Display for Refusal {
     fn fmt<W: fmt::Write>(&self, f: &mut fmt::Formatter<W>) -> fmt::Result {
         match self {
             Refusal::Bad(word) => word.fmt(f),
-            Refusal::NoRoom => f.write_str("the output is too short for the result"),
+            Refusal::NoRoom => f.write_str("what is lent for the result is too short"),
         }
     }
 }

@@ -18,6 +18,6 @@ returns g c =
     let e = c.in_ok-check_word.ensures in
     let t = c.text in
     let d = c.deliver in
-    let p = λ (f : Word → Word) (h : Works (goal.F-pre g c.args.work) (goal.F-post g c.args.work) f). delivered f w.now c.args.out.now e c.work.result
-    (h.gives w c.work.result (sym {a = Ok tt} e) c.work.ensures) t.result.now t.ensures d.result d.new.out d.ensures.value d.ensures.out_after in
+    let p = λ (f : Word → Word) (h : Works (goal.F-pre g c.args.work) (goal.F-post g c.args.work) f). let g = h.gives w c.work.result (sym {a = Ok tt} e) c.work.ensures in
+    delivered f w.now c.args.out.now e c.work.result g.0 g.1 t.result.now t.ensures d.result d.new.out d.ensures.value d.ensures.out_after in
     record { value = λ f h. (p f h).value; out_after = λ f h. (p f h).out_after; out_len_bound = λ f h. (p f h).out_len_bound }

@@ -1,12 +1,35 @@
--- `unmarked_env` meets its contract: the word without its marks is short enough, and its bytes are those of its letters. Assumes nothing.
+-- `unmarked_env` meets its contract: a word with no mark stays as it is typed, and else the marks are taken out of the environment's arrays. Assumes nothing.
 use native.Mathlib.Omega.{arith}
-use Rattle.definition.specs.Floating.{unmarked}
+use mathlib.Core.Path.{◌≡◌}
+use borrow.Author.Rules.{rules}
+use lib.ListN.{length}
+use Rattle.snowball.specs.Stands.{work_size}
 use Rattle.stemmer.specs.Entries.{letters}
-use Rattle.stemmer.proofs.Without.{unmarked_short, without_spelt}
+use Rattle.stemmer.proofs.Answers.{short, scalars, spelling}
+use Rattle.stemmer.proofs.Without.{taken_short, all_left, some_left}
 use Rattle.stemmer.proofs.unmarked_env.Goals as goal
 
-pub returns : goal.returns
-returns c =
+pub take_out-count-requires-clause-fits : goal.take_out-count-requires-clause-fits
+take_out-count-requires-clause-fits c =
+    let s = short c.args.word.now c.requires in
+    let e = c.create-env.result in
+    let n : length e.current ≡ work_size = search rules in
+    let m : length e.places ≡ work_size = search rules in
+    omega arith
+
+pub returns-then-has_mark : goal.returns-then-has_mark
+returns-then-has_mark c =
     let w = c.args.word.now in
-    let s = without_spelt w c.requires c.unmarked.result.now c.unmarked.ensures in
-    (c.create.ensures.1 (unmarked (letters w)) s.0 s.1, omega (arith, c.create.ensures.0.limit, unmarked_short w c.requires c.unmarked.result.now c.unmarked.ensures))
+    let t = c.take_out-count in
+    let e = c.create-env.ensures.0 in
+    let s = taken_short w c.requires t.new.out t.result t.new.places t.ensures in
+    (some_left w c.requires t.new.out t.new.places t.result _ _ t.ensures (omega arith) e.cursor e.limit_backward, s)
+
+pub returns-else-has_mark : goal.returns-else-has_mark
+returns-else-has_mark c =
+    let w = c.args.word.now in
+    let m = c.has_mark in
+    let e = c.create-env in (
+      all_left w c.requires m.result m.ensures c.if-has_mark.false e.result (e.ensures.1 (letters w) (scalars w c.requires) (spelling w c.requires)),
+      omega (arith, e.ensures.0.limit, short w c.requires),
+    )

@@ -5,7 +5,7 @@ use Rattle.arabic.proofs.Normalising.{Inv}
 use Rattle.arabic.proofs.normalize.normalize_text.Given as goal
 
 abbrev pub invariant-loop-cursor : goal.invariant-loop-cursor
-invariant-loop-cursor l = Inv l.text l.cursor l.out l.end
+invariant-loop-cursor l = Inv l.text l.places l.cursor l.out l.out_places l.end
 
 abbrev pub decreases-loop-cursor : goal.decreases-loop-cursor
 decreases-loop-cursor l = length l.text - l.cursor

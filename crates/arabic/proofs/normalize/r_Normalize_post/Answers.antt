@@ -8,9 +8,9 @@ use Rattle.arabic.proofs.Standing.{encoded, finished}
 use Rattle.arabic.proofs.normalize.r_Normalize_post.Goals as goal
 
 pub returns : goal.returns
-returns c = λ w s.
+returns c = λ w ps s.
     let x = c.args.env in
     let z : x.limit - 0 ≡ x.limit = omega arith in
     let t = ap (λ (n : ℕ). take n x.current) z in
     let f = c.finish_text.ensures w (encoded s _ t) in
-    finished w s _ c.finish_text.new.text _ (take_at c.finish_text.new.text _ x.limit (omega (arith, f.sized, ap length (t ∙ s.bytes), s.sized))) f
+    finished w ps s _ c.finish_text.new.text _ (take_at c.finish_text.new.text _ x.limit (omega (arith, f.sized, ap length (t ∙ s.bytes), s.sized))) f

@@ -8,8 +8,8 @@ use Rattle.arabic.proofs.Nest.{and_next, by_step1b_is}
 use Rattle.arabic.proofs.noun_nest.by_Step1b.Goals as goal
 
 pub returns : goal.returns
-returns c = λ v st.
+returns c = λ ps v st.
     let a = c.r_Suffix_Noun_Step1b in
     let r = c.and_then in
-    subst (Gives r.result) (by_step1b_is v)
-    (and_next Ends a.result.outcome r.result after_step1b (search rules) (cut noun_step1b v) (a.ensures v st).0)
+    subst (Gives ps r.result) (by_step1b_is v)
+    (and_next (Ends ps) a.result.outcome r.result after_step1b (search rules) (cut noun_step1b v) (a.ensures ps v st).0)

@@ -12,22 +12,23 @@ pub or_else-tried-requires : goal.or_else-tried-requires
 or_else-tried-requires c =
     let k = kind_of c.args.b_is_defined in
     let p = c.requires in
+    let ps = p.1.0 in
     let a = c.r_Suffix_Noun_Step2c2 in
     let s = c.or_else in
     let t = c.or_else-2 in
-    let r = ready_err t.result _
-    (or_else Ends s.result t.result (if_open k (cut noun_step2a)) (search rules) _
-    (or_else Ends a.result.outcome s.result by_step1b (search rules) (cut noun_step2c2 p.0) (a.ensures p.0 p.1).0)) in
+    let r = ready_err ps t.result _
+    (or_else (Ends ps) (Ends ps) (Ends ps) s.result t.result (if_open k (cut noun_step2a)) (search rules) _
+    (or_else (Ends ps) (Ends ps) (Ends ps) a.result.outcome s.result by_step1b (search rules) (cut noun_step2c2 p.0) (a.ensures ps p.0 p.1.1).0)) in
     search rules
 
 pub returns : goal.returns
-returns c = λ v st.
+returns c = λ ps v st.
     let k = kind_of c.args.b_is_defined in
     let a = c.r_Suffix_Noun_Step2c2 in
     let s = c.or_else in
     let t = c.or_else-2 in
     let r = c.or_else-tried in
-    left_is Ends r.result _ _ _ (noun_first_is k v) c.left_by.ensures
-    (or_else Ends t.result r.result (cut noun_step2b) (search rules) _
-    (or_else Ends s.result t.result (if_open k (cut noun_step2a)) (search rules) _
-    (or_else Ends a.result.outcome s.result by_step1b (search rules) (cut noun_step2c2 v) (a.ensures v st).0)))
+    left_is (Ends ps) r.result _ _ _ (noun_first_is k v) c.left_by.ensures
+    (or_else (Ends ps) (Ends ps) (Ends ps) t.result r.result (cut noun_step2b) (search rules) _
+    (or_else (Ends ps) (Ends ps) (Ends ps) s.result t.result (if_open k (cut noun_step2a)) (search rules) _
+    (or_else (Ends ps) (Ends ps) (Ends ps) a.result.outcome s.result by_step1b (search rules) (cut noun_step2c2 v) (a.ensures ps v st).0)))

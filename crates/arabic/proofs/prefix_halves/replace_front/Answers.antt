@@ -11,31 +11,31 @@ use Rattle.arabic.proofs.prefix_halves.replace_front.Goals as goal
 pub returns-in_default : goal.returns-in_default
 returns-in_default c =
     let a = c.args in
-    λ s w st tk ps nb ch. (not_replaced s w a.env st (sym c.in_default.is ∙ tk.taken) nb, row_is s w a.env st a.found tk nb)
+    λ s ps w st tk pe nb ch. (not_replaced s ps w a.env st (sym c.in_default.is ∙ tk.taken) nb, row_is s ps w a.env st a.found tk nb)
 
 pub overflow_sub-taken : goal.overflow_sub-taken
 overflow_sub-taken c =
     let p = c.requires in
-    some_class p.0 p.1.0 c.args.env p.1.1.0 c.in-Some.taken (sym c.in-Some.is ∙ p.1.1.1.0.taken)
+    some_class p.0 p.1.1.0.0 p.1.0 c.args.env p.1.1.0.1 c.in-Some.taken (sym c.in-Some.is ∙ p.1.1.1.0.taken)
 
 pub bounds-puts-from : goal.bounds-puts-from
 bounds-puts-from c =
     let p = c.requires in
-    omega (arith, in_puts p.0 p.1.0 c.args.env p.1.1.0 c.in-Some.taken (sym c.in-Some.is ∙ p.1.1.1.0.taken) c.args.puts.now p.1.1.1.1, c.from.ensures)
+    omega (arith, in_puts p.0 p.1.1.0.0 p.1.0 c.args.env p.1.1.0.1 c.in-Some.taken (sym c.in-Some.is ∙ p.1.1.1.0.taken) c.args.puts.now p.1.1.1.1, c.from.ensures)
 
 pub slice_from-requires : goal.slice_from-requires
 slice_from-requires c =
     let p = c.requires in
     let none : Bor (List ℕ) = record { ref_ptr = (0, 0); now = [] } in
-    let h = can_slice p.0 p.1.0 c.args.env p.1.1.0 c.in-Some.taken (sym c.in-Some.is ∙ p.1.1.1.0.taken) c.args.puts.now p.1.1.1.1 (get_or c.args.puts.now c.from.result none).now
+    let h = can_slice p.0 p.1.1.0.0 p.1.0 c.args.env p.1.1.0.1 c.in-Some.taken (sym c.in-Some.is ∙ p.1.1.1.0.taken) c.args.puts.now p.1.1.1.1 (get_or c.args.puts.now c.from.result none).now
     (put_is c.args.puts.now c.from.result (c.in-Some.taken.class - 1) none refl c.from.ensures) in
-    (h.0, h.1.0, h.1.1.0, h.1.1.1)
+    (h.0, h.1.0, h.1.1)
 
 pub returns : goal.returns
 returns c =
     let a = c.args in
-    λ s w st tk ps nb ch. (
-      is_replaced s w a.env st c.in-Some.taken (sym c.in-Some.is ∙ tk.taken) a.puts.now ps _ (put_is a.puts.now c.from.result (c.in-Some.taken.class - 1) _ refl c.from.ensures) nb ch c.slice_from.result
+    λ s ps w st tk pe nb ch. (
+      is_replaced s ps w a.env st c.in-Some.taken (sym c.in-Some.is ∙ tk.taken) a.puts.now pe _ (put_is a.puts.now c.from.result (c.in-Some.taken.class - 1) _ refl c.from.ensures) nb ch c.slice_from.result
           c.slice_from.ensures.1,
-      row_is s w a.env st a.found tk nb,
+      row_is s ps w a.env st a.found tk nb,
     )

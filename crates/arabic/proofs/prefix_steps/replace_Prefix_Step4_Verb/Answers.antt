@@ -3,13 +3,18 @@ use mathlib.Core.Path.{refl}
 use Rattle.definition.specs.Tables.{A_9}
 use Rattle.definition.specs.Fronts.{prefix_step4_verb, prefix, replacements, not_at, change}
 use Rattle.utf8.specs.Utf8.{encode1, encode}
-use Rattle.arabic.proofs.Fronted.{passing_in_place}
+use Rattle.arabic.proofs.FrontSteps.{level_changes, fourth, step4_level}
 use Rattle.arabic.proofs.prefix_steps.replace_Prefix_Step4_Verb.Goals as goal
 
 pub prefix_step-requires : goal.prefix_step-requires
 unfolding prefix replacements A_9 encode encode1
-prefix_step-requires c = (prefix_step4_verb, (c.requires.0, (c.requires.1, (record { table = refl; letters = refl; guards = refl }, refl))))
+prefix_step-requires c = let p = c.requires in (prefix_step4_verb, (p.0, ((p.1.0, p.1.1.stands), (record { table = refl; letters = refl; guards = refl }, refl))))
 
 pub returns : goal.returns
 unfolding prefix replacements not_at change A_9 encode encode1
-returns c = λ w st. c.prefix_step.ensures prefix_step4_verb w st (record { table = refl; letters = refl; guards = refl }) refl refl (passing_in_place w)
+returns c =
+    λ ps w st.
+    let r = c.prefix_step.ensures prefix_step4_verb ps w st.stands (record { table = refl; letters = refl; guards = refl }) refl
+    refl
+    (level_changes prefix_step4_verb ps w (λ m. refl) st.placed step4_level) in
+    (fourth prefix_step4_verb ps w (λ m. refl) st.placed _ r.0, r.1)

@@ -3,16 +3,16 @@ use Rattle.definition.specs.Tries.{after}
 use Rattle.definition.specs.Fronts.{prefix_steps, fronts}
 use Rattle.definition.specs.Fronts as definition
 use Rattle.arabic.specs.Kinds.{kind_by_verb}
-use Rattle.arabic.specs.Fronts.{Fronts}
+use Rattle.arabic.specs.Fronts.{Passed}
 use Rattle.arabic.proofs.Nest.{left_after}
 use Rattle.arabic.proofs.Items.{at_start, back_to}
 use Rattle.arabic.proofs.stem.change_front.Goals as goal
 
 pub prefixes-requires : goal.prefixes-requires
-prefixes-requires c = (c.requires.0, at_start c.args.env c.requires.0 c.requires.1)
+prefixes-requires c = let p = c.requires in (p.0, (p.1.0, at_start c.args.env p.0 p.1.0 p.1.1))
 
 pub returns : goal.returns
 unfolding fronts
 returns c =
     let a = c.args in
-    λ w st. back_to a.env c.left_by-changed.result w (after (prefix_steps (kind_by_verb a.context.b_is_verb) (definition.started w))) st (left_after Fronts c.prefixes.result _ _ c.left_by-changed.ensures (c.prefixes.ensures w (at_start a.env w st)))
+    λ w ps st. back_to a.env c.left_by-changed.result w ps (after (prefix_steps (kind_by_verb a.context.b_is_verb) (definition.started w))) st (left_after (Passed ps) c.prefixes.result _ _ c.left_by-changed.ensures (c.prefixes.ensures ps w (at_start a.env w ps st)))

@@ -6,8 +6,8 @@ use Rattle.arabic.proofs.Nest.{left_is, or_else, after_step1_is}
 use Rattle.arabic.proofs.verb_nest.after_Step1.Goals as goal
 
 pub returns : goal.returns
-returns c = λ v st.
+returns c = λ ps v st.
     let a = c.r_Suffix_Verb_Step2a in
     let b = c.or_else-tried in
-    left_is Ends b.result _ _ _ (after_step1_is v) c.left_by.ensures
-    (or_else Ends a.result.outcome b.result (cut verb_step2c) (search rules) (cut verb_step2a v) (a.ensures v st).0)
+    left_is (Ends ps) b.result _ _ _ (after_step1_is v) c.left_by.ensures
+    (or_else (Ends ps) (Ends ps) (Ends ps) a.result.outcome b.result (cut verb_step2c) (search rules) (cut verb_step2a v) (a.ensures ps v st).0)

@@ -7,4 +7,6 @@ use Rattle.recorded.proofs.rows.Word.at_end.Goals as goal
 pub returns : goal.returns
 returns c =
     let f = c.at_front-env in
-    (uncut f.ensures.0, none_cut _ f.ensures.0 (to_end f.result f.ensures.0 f.ensures.1) refl)
+    let w = f.ensures.0 in
+    let ps = f.ensures.1.0 in
+    (uncut w, (ps, none_cut _ w ps (to_end f.result w ps f.ensures.1.1) refl))

@@ -1,0 +1,2 @@
+-- Proofs about the calls of the steps.
+mod Left
