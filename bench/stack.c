@@ -11,7 +11,7 @@ enum { STACK = 64 * 1024, ARGUMENTS = 7 };
 
 /* The seventh argument lies above the stack that is counted, where the caller puts it. */
 static uint8_t stack[STACK + 16] __attribute__((aligned(4096)));
-static uint8_t word[ARABIC_STEMMER_LONGEST_WORD], output[ARABIC_STEMMER_ROOM];
+static uint8_t word[ARABIC_STEMMER_LONGEST_WORD], output[ARABIC_STEMMER_STORY_ROOM];
 static uint16_t places[ARABIC_STEMMER_PLACES_ROOM];
 static arabic_stemmer_places_answer places_answer;
 
@@ -73,6 +73,7 @@ static size_t used(const entry *e, size_t length, int pattern)
 
 static entry entries[] = {{"stem", (void *)arabic_stemmer_stem, WORD | OUTPUT, 0},
                           {"stem_places", (void *)arabic_stemmer_stem_places, WORD | OUTPUT | PLACES, 0},
+                          {"story", (void *)arabic_stemmer_story, WORD | OUTPUT, 0},
                           {"normalise", (void *)arabic_stemmer_normalise, WORD | OUTPUT, 0},
                           {"finish", (void *)arabic_stemmer_finish, WORD | OUTPUT, 0},
                           {"kind", (void *)arabic_stemmer_kind, WORD, 0},

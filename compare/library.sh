@@ -1,5 +1,5 @@
 # shellcheck shell=bash
-# Sourced by compare/run, compare/fuzz, compare/places and bench/run.
+# Sourced by compare/run, compare/fuzz, compare/places, compare/story and bench/run.
 
 # The library to link: the given path, or else one built from this repository.
 # library_path GIVEN ROOT

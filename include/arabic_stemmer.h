@@ -2,7 +2,8 @@
  *
  * Floating marks, vowel marks that stand alone as phones send them (U+FE70 to U+FE72, U+FE74, U+FE76 to U+FE7F), are taken
  * out of the word first where it is stemmed or normalised or its kind is asked for: a word that is not refused has the answers
- * of the same word without them, but for places. Places and the 255 bytes of a word are counted with them.
+ * of the same word without them, but for places, and its story has a line for each of them in front. Places and the 255 bytes
+ * of a word are counted with them.
  *
  * Every function ends, allocates nothing and keeps no state: calls from several threads need no lock as long as
  * their outputs and places do not overlap. A word is any bytes and is only read. Pointers must not be null, also where the
@@ -20,8 +21,11 @@ extern "C" {
 /* The most bytes that a word may have. */
 #define ARABIC_STEMMER_LONGEST_WORD 255
 
-/* An output of so many bytes is long enough for every result. */
+/* An output of so many bytes is long enough for every result but a story. */
 #define ARABIC_STEMMER_ROOM 340
+
+/* And one of so many bytes for every story; the longest one known has 5755. */
+#define ARABIC_STEMMER_STORY_ROOM 5937
 
 /* So many numbers are enough for the places of every stem's letters. */
 #define ARABIC_STEMMER_PLACES_ROOM 255
@@ -31,7 +35,7 @@ extern "C" {
 #define ARABIC_STEMMER_DONE 0            /* the result stands in front of the output, and a stem's places in front of theirs */
 #define ARABIC_STEMMER_TOO_LONG 1        /* the word has more than 255 bytes: cut it, or leave it out */
 #define ARABIC_STEMMER_NOT_WELL_FORMED 2 /* the word is not well-formed UTF-8: convert it first */
-#define ARABIC_STEMMER_NO_ROOM 3         /* the output or the places are too short: lend 340 bytes and 255 numbers */
+#define ARABIC_STEMMER_NO_ROOM 3         /* the output or the places are too short: lend the room that is named above */
 
 /* Kinds. */
 #define ARABIC_STEMMER_OPEN 0    /* noun or verb */
@@ -81,6 +85,21 @@ arabic_stemmer_stem_answer arabic_stemmer_stem(const uint8_t *word, size_t word_
  * it is the first's. Places never fall along the stem. */
 arabic_stemmer_places_answer arabic_stemmer_stem_places(const uint8_t *word, size_t word_length, uint8_t *output,
                                                         size_t output_length, uint16_t *places, size_t places_length);
+
+/* The story of the stem, as ASCII text: a line for each change of the word's letters, in the order made, and none where nothing is
+ * changed. A line has the step's name, the letters of the row that the step found, and how many letters the word has after the change,
+ * parted by single spaces and ended by LF. Letters are four hexadecimal digits each, with capitals, joined by '+'; the number is
+ * decimal. A step's name is that of the Rust function without r_, with spaces for underscores; r_Normalize_post is the two steps
+ * "Normalize post last" and "Normalize post other". Each floating mark that is taken out is a line of the step "Floating mark" before
+ * all others, with the mark in place of a row. For U+0648 U+0633 U+064A U+0643 U+062A U+0628 U+0648 U+0646 U+0647 U+0627:
+ *
+ *     Suffix Verb Step1 0647+0627 8
+ *     Suffix Verb Step2a 0648+0646 6
+ *     Prefix Step2 0648 5
+ *     Prefix Step3 Verb 0633+064A 4
+ *
+ * ARABIC_STEMMER_STORY_ROOM bytes are enough. */
+arabic_stemmer_answer arabic_stemmer_story(const uint8_t *word, size_t word_length, uint8_t *output, size_t output_length);
 
 /* The word normalised, with nothing cut: floating and other vowel marks, the tatweel and some punctuation deleted, digits and
  * presentation forms replaced. A well-formed text of any length may be normalised in blocks of up to 255 bytes, each cut before a

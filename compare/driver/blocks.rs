@@ -1,6 +1,6 @@
 // The laws for index builders on one word: cut in two at every byte, and its results handed in again. The Rust says what must come out.
 
-use check::{hex, LONGEST, ROOM};
+use check::ROOM;
 use interface::*;
 use marks::unmarked;
 use snowball::algorithms::arabic_test_copy;

@@ -9,7 +9,6 @@ use std::panic::catch_unwind;
 const PAGE: usize = 4096;
 const PAGES: usize = 4;
 const BESIDE: usize = 48;
-pub const LONGEST: usize = 255;
 pub const ROOM: usize = 340;
 
 extern "C" {
@@ -84,13 +83,6 @@ pub struct Difference {
     pub out_len: Option<usize>,
     pub ours: String,
     pub rust: String,
-}
-
-pub fn hex(bytes: &[u8]) -> String {
-    if bytes.is_empty() {
-        return "(empty)".to_string();
-    }
-    bytes.iter().map(|b| format!("{:02X}", b)).collect::<Vec<_>>().join(" ")
 }
 
 pub struct Checker {

@@ -11,7 +11,8 @@ mod marks;
 #[path = "source/mod.rs"]
 mod snowball;
 
-use check::{hex, Checker};
+use check::Checker;
+use interface::hex;
 
 static mut CHECKER: Option<Checker> = None;
 

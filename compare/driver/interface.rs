@@ -1,4 +1,4 @@
-// The C interface of the library.
+// The C interface of the library, and its bytes as they are shown.
 
 #[repr(C)]
 #[derive(Clone, Copy, PartialEq, Debug)]
@@ -37,6 +37,16 @@ pub struct PlacesAnswer {
     pub letters: usize,
 }
 
+/// The most bytes that a word may have.
+pub const LONGEST: usize = 255;
+
+pub fn hex(bytes: &[u8]) -> String {
+    if bytes.is_empty() {
+        return "(empty)".to_string();
+    }
+    bytes.iter().map(|b| format!("{:02X}", b)).collect::<Vec<_>>().join(" ")
+}
+
 pub type Entry = unsafe extern "C" fn(*const u8, usize, *mut u8, usize) -> Answer;
 
 extern "C" {
@@ -44,6 +54,7 @@ extern "C" {
     pub fn arabic_stemmer_stem_places(word: *const u8, word_len: usize, out: *mut u8, out_len: usize, places: *mut u16, places_len: usize) -> PlacesAnswer;
     pub fn arabic_stemmer_normalise(word: *const u8, word_len: usize, out: *mut u8, out_len: usize) -> Answer;
     pub fn arabic_stemmer_finish(word: *const u8, word_len: usize, out: *mut u8, out_len: usize) -> Answer;
+    pub fn arabic_stemmer_story(word: *const u8, word_len: usize, out: *mut u8, out_len: usize) -> Answer;
     pub fn arabic_stemmer_kind(word: *const u8, word_len: usize) -> KindAnswer;
     pub fn arabic_stemmer_version(out: *mut u8, out_len: usize) -> Answer;
 }

@@ -17,9 +17,8 @@ mod words;
 use interface::*;
 use places_model::*;
 use std::time::{Duration, Instant};
-use words::{character, Words};
+use words::{character, Words, FILLERS};
 
-const LONGEST: usize = 255;
 const ROOM: usize = 340;
 /// Bytes and numbers that are not lent stand behind the lent ones.
 const BEHIND: usize = 32;
@@ -27,16 +26,6 @@ const SHOWN: u64 = 10;
 
 /// Beside the tables' letters and U+062F in the part short: letters of one, three and four bytes, a ligature, a vowel mark and a floating one.
 const BESIDE: [u32; 6] = [0x61, 0x2028, 0x1F453, 0xFEFB, 0x64E, 0xFE76];
-
-/// Letters of one to four bytes that are in no table.
-const FILLERS: [u32; 4] = [0x61, 0x62F, 0x2028, 0x1F453];
-
-fn hex(bytes: &[u8]) -> String {
-    if bytes.is_empty() {
-        return "(empty)".to_string();
-    }
-    bytes.iter().map(|b| format!("{:02X}", b)).collect::<Vec<_>>().join(" ")
-}
 
 /// What the model expects: a refusal's code, or the stem with its number of endings and its places.
 enum Expected {

@@ -17,7 +17,8 @@ mod random;
 #[path = "words.rs"]
 mod words;
 
-use check::{hex, Checker, Difference, Expected};
+use check::{Checker, Difference, Expected};
+use interface::{hex, LONGEST};
 use snowball::algorithms::arabic_test_copy;
 use std::io::BufRead;
 use std::time::{Duration, Instant};
@@ -241,7 +242,7 @@ fn random(run: &mut Run, words: &mut Words, count: u64, damaged: bool) {
     let mut refused = 0;
     for _ in 0..count {
         let word = if damaged { words.damaged() } else { words.word() };
-        if damaged && (word.len() > check::LONGEST || std::str::from_utf8(&word).is_err()) {
+        if damaged && (word.len() > LONGEST || std::str::from_utf8(&word).is_err()) {
             refused += 1;
         }
         if !run.take(&word) {
@@ -262,7 +263,7 @@ fn marked(run: &mut Run, words: &mut Words, count: u64) {
         let word = words.marked_word();
         if marks::unmarked(&word) != word {
             with += 1;
-            long += (word.len() > check::LONGEST) as u64;
+            long += (word.len() > LONGEST) as u64;
             if let Ok(Expected::Given { defined, ref texts, .. }) = check::expected(word.as_bytes()) {
                 other += (texts[0] != marks::unmarked(&check::stem(&word)) || defined != arabic_test_copy::is_defined(&word)) as u64;
             }

@@ -10,6 +10,9 @@ pub const FOREIGN: [u32; 33] = [
     0xFFFF, 0x10000, 0x1F453, 0xFFFFF, 0x10FFFF,
 ];
 
+/// Letters of one to four bytes that are in no table.
+pub const FILLERS: [u32; 4] = [0x61, 0x62F, 0x2028, 0x1F453];
+
 /// Some of the floating marks.
 const FLOATING: [&'static str; 5] = ["\u{FE70}", "\u{FE72}", "\u{FE74}", "\u{FE76}", "\u{FE7F}"];
 

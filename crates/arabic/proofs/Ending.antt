@@ -1,32 +1,37 @@
 -- The steps that cut an ending: one law over the table and the guards. Assumes nothing.
 use mathlib.Core.Path.{◌≡◌, refl, sym, ap, ◌∙◌, subst}
 use mathlib.Core.Bool.{Bool, true, false}
-use mathlib.Core.List.{List, [], ◌∷◌, ◌++◌}
+use mathlib.Core.List.{List, ◌++◌}
 use mathlib.Core.Option.{Option, none, some}
-use Prim.Native.Nat.{ℕ, ◌+◌, ◌-◌, ◌≤◌, ◌<◌}
+use Prim.Native.Nat.{ℕ, ◌+◌, ◌-◌, ◌*◌, ◌^◌, ◌≤◌, ◌<◌}
 use native.Mathlib.Omega.{arith}
 use lib.ListN.{length, take, drop, length-append}
-use lib.Seq.{take-length, length-take-le, take-take, take_at}
-use Rattle.std.specs.Prelude.{Some, None, Ok, Err}
+use lib.Seq.{take-length, take-take, take_at}
+use Rattle.std.specs.Prelude.{Option as Maybe, Some, None, Ok, Err}
 use Rattle.std.specs.Bool.{then_some}
 use Rattle.definition.specs.Words.{Word, pick, ends_with}
 use Rattle.definition.specs.Search.{row_at, longest, met, taken}
+use Rattle.definition.specs.Tries.{Try}
 use Rattle.definition.specs.Endings.{SuffixStep, suffix, Cutting, ending, cut_off, cut_by, cut}
 use Rattle.definition.proofs.Match.{ends_split}
 use Rattle.definition.proofs.Found.{taken_some}
-use Rattle.definition.proofs.Cutting.{row_some}
-use Rattle.utf8.specs.Utf8.{Scalars, encode1, encode}
+use Rattle.utf8.specs.Utf8.{Scalars, encode}
 use Rattle.utf8.specs.Places.{size}
-use Rattle.utf8.proofs.Text.{encode1_pos, encode-append, scalars-left}
+use Rattle.utf8.specs.Spelt.{Encodes}
+use Rattle.utf8.proofs.Text.{encode-append, scalars-left}
 use Rattle.utf8.specs.Beside.{at_letters}
 use Rattle.utf8.proofs.Beside.{at_letters-length, at_letters-joined}
 use Rattle.utf8.proofs.Places.{size-append}
 use Rattle.snowball.specs.declared.env.Env.{Env}
 use Rattle.snowball.specs.declared.among.Found.{Found}
 use Rattle.snowball.specs.Search.{Behind}
-use Rattle.snowball.specs.Stands.{Stands, Standing}
+use Rattle.snowball.specs.Stands.{most_changes, Standing}
+use Rattle.arabic.specs.declared.tried.Searched.{Searched}
+use Rattle.arabic.specs.Changes.{suffix_number, cut_numbers, with_change}
 use Rattle.arabic.specs.Endings.{at_end, Ends, Gives, place_by, ending_at, TakesEnding}
-use Rattle.arabic.proofs.Guarded.{taken_is, some_none, some-same}
+use Rattle.arabic.proofs.Guarded.{taken_is, taken_longest, some_none, some-same}
+use Rattle.arabic.proofs.Standing.{encoded}
+use Rattle.arabic.proofs.Noting.{noted_more, IsNoted, suffix_noted, is_noted}
 
 -- ---- the row, and where the ending begins: b says whether the row's guard is met
 pub takes_ending : (s : SuffixStep) (w : Word) (limit : ℕ) (f : Found) → Behind (suffix s).table w limit f → (b : Bool) → b ≡ met (suffix s).guards f.class (length w)
@@ -37,11 +42,6 @@ takes_ending s w limit f h b e = record { row = h.finds.row; place = placed b �
     placed : (b : Bool) → then_some b f.cursor ≡ place_by s limit (pick b (some (longest (ends_with w) (suffix s).table)) none)
     placed true = ap Some h.cursor
     placed false = refl
-
-size_some : (w : Word) → 1 ≤ length w → 1 ≤ size w
-unfolding encode
-size_some [] h = absurd (omega arith)
-size_some (c ∷ w) h = let e = encode1_pos c in rw (length-append (encode1 c) (encode w)) (omega arith)
 
 -- the letters u in front of a text, with the cursor at their end
 module _ {current places : List ℕ} {limit cursor behind : ℕ} {t : Word} (ps : List ℕ) (u k : Word) (split : t ≡ u ++ k) (st : Standing current places limit cursor behind (at_end ps t)) where
@@ -70,6 +70,20 @@ module _ {current places : List ℕ} {limit cursor behind : ℕ} {t : Word} (ps 
       }
 
 -- ---- the cut
+-- what a cut at the place leaves; bra and ket do not matter
+abbrev cut_at : Env → ℕ → Env
+cut_at e place = record {
+  cursor = place;
+  limit = place;
+  limit_backward = e.limit_backward;
+  bra = place;
+  ket = e.limit;
+  made = e.made;
+  current = e.current;
+  places = e.places;
+  changes = e.changes;
+}
+
 module _ (s : SuffixStep) (ps : List ℕ) (v : Cutting) (x : Env) (st : Ends ps x v) where
   abbrev t : Word
   t = v.text
@@ -83,44 +97,60 @@ module _ (s : SuffixStep) (ps : List ℕ) (v : Cutting) (x : Env) (st : Ends ps 
     unfolding key
     m = length t - length key
 
+    noted : IsNoted (suffix_number s) (suffix s).table r
+    noted = is_noted (suffix_number s) (suffix s).table (suffix_noted s) r (taken_some (ends_with t) (suffix s) (length t) r q).inside
+
     split : t ≡ take m t ++ key
     unfolding m key
     split = ends_split t key (taken_some (ends_with t) (suffix s) (length t) r q).matches
 
-    lengths : (length t ≡ length (take m t) + length key) × (1 ≤ length key) × (size t ≡ size (take m t) + size key) × (length (take m t) ≡ m)
-    unfolding m key
-    lengths = (
-      ap length split ∙ length-append (take m t) key,
-      row_some s r (taken_some (ends_with t) (suffix s) (length t) r q).inside,
-      ap size split ∙ size-append (take m t) key,
-      length-take-le m t (omega arith),
-    )
-
     begins : place ≡ size (take m t)
     unfolding m key
-    begins = let l = lengths in omega (arith, at, l.2, st.stands.sized)
+    begins = omega (arith, at, ap size split ∙ size-append (take m t) key, st.stands.sized)
 
-    inside : place < x.limit
+    inside : place + 2 ≤ x.limit
     unfolding m key
-    inside = let l = lengths in omega (arith, begins, l.2, st.stands.sized, size_some key l.1)
+    inside = omega (arith, begins, ap size split ∙ size-append (take m t) key, st.stands.sized, noted.two_bytes)
 
-  -- the environment that a cut at the place leaves, with one ending more; bra and ket do not matter
-  pub cuts : (place : ℕ) → Some place ≡ ending_at s v.text x.limit
-      → (y : Env) → ((u : Word) → Standing x.current x.places place place x.limit_backward (at_end ps u) → Stands y (at_end ps u)) → y.limit ≡ place → y.endings ≡ x.endings + 1
-      → Gives ps (Ok y) (cut s v)
-  unfolding cut cut_off ending m key ending_at
-  cuts place at y is ends more = go (taken (ends_with v.text) (suffix s) (length v.text)) refl
-    where
-      go : (o : Option ℕ) → taken (ends_with v.text) (suffix s) (length v.text) ≡ o → Gives ps (Ok y) (cut s v)
-      go none q = absurd (some_none (at ∙ ap (place_by s x.limit) q))
-      go (some r) q =
-          let p = some-same (at ∙ ap (place_by s x.limit) q) in
-          subst (Gives ps (Ok y)) (ap (cut_by s v) (sym q))
-          (record {
-            stands = is (take (m r q place p) t) (shortened ps (take (m r q place p) t) (key r q place p) (split r q place p) st.stands place (begins r q place p));
-            counted = omega (arith, more, st.counted);
-            room = omega (arith, ends, more, inside r q place p, st.room);
-          })
+  -- what is found in the text t of the environment
+  pub found_in : (t : List ℕ) → t ≡ take x.limit x.current → (f : Searched (Maybe ℕ)) → ((w : Word) → Encodes t w → TakesEnding s w (length t) f) → TakesEnding s v.text x.limit f
+  found_in t e f h = subst (λ (n : ℕ). TakesEnding s v.text n f) (ap length (e ∙ st.stands.bytes) ∙ sym st.stands.sized) (h v.text (encoded st.stands t e))
+
+  -- where one is taken: f is what was found
+  module _ (f : Searched (Maybe ℕ)) (tk : TakesEnding s v.text x.limit f) (place step : ℕ) (is : f.outcome ≡ Some place) (first : step ≡ 16 * suffix_number s) where
+    row_taken : (r : ℕ) × ((taken (ends_with v.text) (suffix s) (length v.text) ≡ some r) × ((f.row ≡ r) × (place ≡ x.limit - size (row_at (suffix s).table r).letters)))
+    unfolding ending_at
+    row_taken = go (taken (ends_with v.text) (suffix s) (length v.text)) refl
+      where
+        go : (o : Option ℕ) → taken (ends_with v.text) (suffix s) (length v.text) ≡ o
+            → (r : ℕ) × ((taken (ends_with v.text) (suffix s) (length v.text) ≡ some r) × ((f.row ≡ r) × (place ≡ x.limit - size (row_at (suffix s).table r).letters)))
+        go none q = absurd (some_none (sym is ∙ tk.place ∙ ap (place_by s x.limit) q))
+        go (some r) q = (r, (q, (tk.row ∙ taken_longest (ends_with v.text) (suffix s) (length v.text) r q, some-same (sym is ∙ tk.place ∙ ap (place_by s x.limit) q))))
+
+    -- the change can be noted
+    pub can_note : (x.made < most_changes) × (step + f.row < 2 ^ 8)
+    can_note =
+        let k = row_taken in
+        let i = inside k.0 k.1.0 place k.1.1.1 in
+        (omega (arith, st.room), omega (arith, (noted k.0 k.1.0 place k.1.1.1).byte, k.1.1.0))
+
+    -- and where it is, the ending is cut
+    pub cuts : length x.changes ≡ most_changes → (z : Env) → z ≡ with_change x (step + f.row) → Gives ps (Ok (cut_at z place)) (cut s v)
+    unfolding cut cut_off ending m key
+    cuts n z e =
+        let k = row_taken in
+        let r = k.0 in
+        let q = k.1.0 in
+        let p = k.1.1.1 in
+        let number : step + f.row ≡ 16 * suffix_number s + r = omega (arith, k.1.1.0) in
+        let more = noted_more x (cut_numbers v.cuts) (16 * suffix_number s + r) (omega (arith, can_note.0)) st.noted in
+        subst (λ (y : Try Cutting). Gives ps (Ok (cut_at z place)) y) (ap (cut_by s v) (sym q))
+        (subst (λ (y : Env). Ends ps (cut_at y place) (cut_off v (record { step = s; row = r }))) (sym (e ∙ ap (with_change x) number))
+        (record {
+          stands = shortened ps (take (m r q place p) t) (key r q place p) (split r q place p) st.stands place (begins r q place p);
+          noted = record { made = more.made; changes = more.changes };
+          room = omega (arith, inside r q place p, st.room);
+        }))
 
   -- where none is taken
   pub keeps : None ≡ ending_at s v.text x.limit → Gives ps (Err x) (cut s v)

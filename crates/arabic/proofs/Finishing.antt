@@ -19,7 +19,7 @@ use Rattle.utf8.specs.Spelt.{Encodes}
 use Rattle.arabic.specs.Bytes.{LetterIs}
 use Rattle.utf8.specs.declared.letters.Letter.{Letter}
 use Rattle.arabic.specs.Texts.{changed, Finished}
-use Rattle.arabic.proofs.Changes.{changed-size, changed_top}
+use Rattle.arabic.proofs.FinishedLetter.{changed-size, changed_top}
 use Rattle.utf8.proofs.Ahead as ahead
 use Rattle.utf8.proofs.Ahead.{Ahead, Next, cons_size}
 

@@ -21,14 +21,14 @@ use Rattle.definition.proofs.Found.{taken_some, all_at}
 use Rattle.definition.proofs.FrontRows.{replaced_by}
 use Rattle.places.specs.Places.{head_from}
 use Rattle.snowball.specs.declared.env.Env.{Env}
-use Rattle.snowball.specs.Stands.{Stands, Standing}
+use Rattle.snowball.specs.Stands.{Stands}
 use Rattle.utf8.specs.Utf8.{encode1, encode}
 use Rattle.utf8.specs.Beside.{at_letters}
 use Rattle.utf8.proofs.Text.{encode1_pos}
 use Rattle.utf8.proofs.Beside.{at_letters-length}
 use Rattle.arabic.specs.declared.tried.Searched.{Searched}
 use Rattle.arabic.specs.declared.prefix_halves.TakenRow.{TakenRow}
-use Rattle.arabic.specs.Fronts.{cursor_of, front_places, taken_by, Takes, FirstKept, at_front, HeadPlaced, Passed, Fronts, GivesFront, GivesThird, GivesPassed, GivesText, InPlace}
+use Rattle.arabic.specs.Fronts.{cursor_of, front_places, taken_by, Takes, FirstKept, HeadPlaced, AtFront, Passed, Fronts, GivesFront, GivesThird, GivesPassed, GivesText, InPlace}
 use Rattle.arabic.proofs.FrontPlaces.{passing_placed, start_placed, headed-places, headed_placed}
 use Rattle.arabic.proofs.Fronted.{unpassed_in_place, level_in_place, headed_in_place, holds_behind}
 
@@ -40,21 +40,21 @@ module _ (s : PrefixStep) (ps : List ℕ) (w : Fronting) (is : (m : Applied) →
   -- Step3's: what it puts is passed
   pub third : w.passed ≡ [] → (t : Result Env Env) → GivesText ps t (apply s w) → GivesThird ps t (apply s w)
   third u = holds_behind (Passed ps) (Fronts ps) s ps w
-      (λ e h. record { stands = h; placed = p; unpassed = u })
-      (λ r q e h. record { stands = h; placed = placed_behind (at s r) })
+      (λ e h. record { state = h; placed = p; unpassed = u })
+      (λ r q e h. record { state = h; placed = placed_behind (at s r) })
 
   -- Step4_Verb
   pub fourth : (t : Result Env Env) → GivesText ps t (apply s w) → GivesPassed ps t (apply s w)
   fourth = holds_behind (Passed ps) (Passed ps) s ps w
-      (λ e h. record { stands = h; placed = p })
-      (λ r q e h. record { stands = h; placed = placed_behind (at s r) })
+      (λ e h. record { state = h; placed = p })
+      (λ r q e h. record { state = h; placed = placed_behind (at s r) })
 
   -- Step2 puts nothing
   pub second : w.passed ≡ [] → ((r : ℕ) → replacement (at s r) ≡ []) → (t : Result Env Env) → GivesText ps t (apply s w) → GivesFront ps t (apply s w)
   second u empty = holds_behind (Fronts ps) (Fronts ps) s ps w
-      (λ e h. record { stands = h; placed = p; unpassed = u })
+      (λ e h. record { state = h; placed = p; unpassed = u })
       (λ r q e h. record {
-        stands = h;
+        state = h;
         placed = placed_behind (at s r);
         unpassed = ap (λ (f : Fronting). f.passed) (is (at s r)) ∙ (λ i. u i ++ empty r i);
       })
@@ -148,14 +148,14 @@ lend_word ps h [] l e = absurd (omega arith)
 lend_word ps h (c ∷ []) l e = absurd (omega arith)
 lend_word ps h (c ∷ d ∷ v) l e = lend_two ps h c d v e
 
-module _ (w : Word) (ps : List ℕ) (x : Env) (st : Stands x (at_front ps (started w))) where
+module _ (w : Word) (ps : List ℕ) (x : Env) (st : AtFront ps x (started w)) where
   places-length : length ps ≡ length w
   unfolding started
-  places-length = ap length (sym st.placed) ∙ at_letters-length w x.places
+  places-length = ap length (sym st.stands.placed) ∙ at_letters-length w x.places
 
   pub at_front_zero : x.cursor ≡ 0
   unfolding started encode
-  at_front_zero = st.cursor.1
+  at_front_zero = st.stands.cursor.1
 
   -- the row r is taken
   module _ (r : ℕ) (q : taken (begins_with w) (prefix prefix_step1) (length w) ≡ some r) where
@@ -169,9 +169,9 @@ module _ (w : Word) (ps : List ℕ) (x : Env) (st : Stands x (at_front ps (start
     enough : 2 ≤ length ps
     enough = omega (arith, row.two, places-length, ap length word_split, length-append (front_row (at prefix_step1 r)) (drop (length (front_row (at prefix_step1 r))) w))
 
-    headed_holds : (e : Env) → Stands e (at_front ps (headed (started w) (at prefix_step1 r))) → Fronts ps e (headed (started w) (at prefix_step1 r))
+    headed_holds : (e : Env) → AtFront ps e (headed (started w) (at prefix_step1 r)) → Fronts ps e (headed (started w) (at prefix_step1 r))
     unfolding started
-    headed_holds e h = record { stands = h; placed = headed_placed ps w (at prefix_step1 r) row.two row.one enough; unpassed = refl }
+    headed_holds e h = record { state = h; placed = headed_placed ps w (at prefix_step1 r) row.two row.one enough; unpassed = refl }
 
     changes_if : (qs : List ℕ) → 2 ≤ length qs → (head_from (front_row (at prefix_step1 r)) ≡ 0 → get_or qs 0 0 ≡ get_or qs 1 0) → InPlace qs (started w) (at prefix_step1 r) (headed (started w) (at prefix_step1 r))
     changes_if qs l e = headed_in_place qs w (at prefix_step1 r) (headed-places qs w (at prefix_step1 r) row.two row.one l e)
@@ -190,7 +190,7 @@ module _ (w : Word) (ps : List ℕ) (x : Env) (st : Stands x (at_front ps (start
     pub unlent : (t : Result Env Env) → GivesText ps t (apply prefix_step1 (started w)) → GivesFront ps t (apply prefix_step1 (started w))
     unfolding started change
     unlent = holds_behind (Fronts ps) (Fronts ps) prefix_step1 ps (started w)
-        (λ e h. record { stands = h; placed = start_placed ps w; unpassed = refl })
+        (λ e h. record { state = h; placed = start_placed ps w; unpassed = refl })
         (λ r q e h. headed_holds r q e h)
 
     -- the first keeps its place
@@ -216,11 +216,15 @@ module _ (w : Word) (ps : List ℕ) (x : Env) (st : Stands x (at_front ps (start
             ap (λ (v : Word). get_or v 0 0) (word_split r q) ∙ get_or-append (front_row (at prefix_step1 r)) (drop (length (front_row (at prefix_step1 r))) w) 0 0 (omega (arith, (row r q).two)) in
             ap (λ (n : ℕ). at_letters w (set x.places (n + 2) (get_or x.places n 0))) at_front_zero
             ∙ lend_word x.places wide w (omega (arith, enough r q, places-length)) (ap (λ (c : ℕ). length (encode1 c)) first ∙ (row r q).wide)
-            ∙ ap lent st.placed
+            ∙ ap lent st.stands.placed
 
-        pub lent_stands : Standing x.current (set x.places (x.cursor + 2) (get_or x.places x.cursor 0)) x.limit x.cursor x.limit_backward (at_front (lent ps) (started w))
+        pub lent_state : AtFront (lent ps) (record { cursor = x.cursor; limit = x.limit; limit_backward = x.limit_backward; bra = x.bra; ket = x.ket; made = x.made; current = x.current; places = set x.places (x.cursor + 2) (get_or x.places x.cursor 0); changes = x.changes }) (started w)
         unfolding started
-        lent_stands = record { scalars = st.scalars; bytes = st.bytes; sized = st.sized; within = st.within; placed = lent-placed; cursor = st.cursor; back = st.back }
+        lent_state = record {
+          stands = record { scalars = st.stands.scalars; bytes = st.stands.bytes; sized = st.stands.sized; within = st.stands.within; placed = lent-placed; cursor = st.stands.cursor; back = st.stands.back };
+          noted = record { made = st.noted.made; changes = st.noted.changes };
+          room = st.room;
+        }
 
       pub lent_changes : (r : ℕ) → taken (begins_with w) (prefix prefix_step1) (length w) ≡ some r → InPlace (lent ps) (started w) (at prefix_step1 r) (headed (started w) (at prefix_step1 r))
       lent_changes r q = changes_if r q (lent ps) (omega arith) (λ z. refl)
@@ -249,6 +253,11 @@ module _ (w : Word) (ps : List ℕ) (x : Env) (st : Stands x (at_front ps (start
           go : (t : Result Env Env) → GivesText (lent ps) t (done (headed (started w) (at prefix_step1 taken_row.0))) → GivesFront ps t (done (headed (started w) (at prefix_step1 taken_row.0)))
           go (Ok y) h =
               headed_holds taken_row.0 taken_row.1 y
-              (subst (λ (l : List ℕ). Stands y (record { text = text (headed (started w) (at prefix_step1 taken_row.0)); places = l; cursor = cursor_of (headed (started w) (at prefix_step1 taken_row.0)); back = 0 }))
-              (same_places taken_row.0 taken_row.1) h)
+              (record {
+                stands =
+                    subst (λ (l : List ℕ). Stands y (record { text = text (headed (started w) (at prefix_step1 taken_row.0)); places = l; cursor = cursor_of (headed (started w) (at prefix_step1 taken_row.0)); back = 0 }))
+                    (same_places taken_row.0 taken_row.1) h.stands;
+                noted = h.noted;
+                room = h.room;
+              })
           go (Err y) h = absurd h

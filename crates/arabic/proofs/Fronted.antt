@@ -3,7 +3,7 @@ use mathlib.Core.Path.{◌≡◌, refl, sym, ap, ◌∙◌, subst}
 use mathlib.Core.Bool.{Bool, true, false}
 use mathlib.Core.List.{List, [], ◌∷◌, ◌++◌, append_assoc, append-nil}
 use mathlib.Core.Option.{Option, none, some}
-use Prim.Native.Nat.{ℕ, zero, suc, ◌+◌, ◌-◌, ◌≤◌, ◌<◌}
+use Prim.Native.Nat.{ℕ, zero, suc, ◌+◌, ◌-◌, ◌*◌, ◌^◌, ◌≤◌, ◌<◌}
 use native.Mathlib.Omega.{arith}
 use lib.Dec.{leb}
 use Rattle.std.specs.Prelude.{map, Option as Maybe, Some, None, Result, Ok, Err}
@@ -26,7 +26,7 @@ use Rattle.utf8.specs.Places.{size, At}
 use Rattle.utf8.specs.Beside.{widths}
 use Rattle.utf8.specs.Spelt.{Encodes, Spelt}
 use Rattle.utf8.proofs.Text.{scalars_right}
-use Rattle.utf8.proofs.Places.{drop-size}
+use Rattle.utf8.proofs.Places.{drop-size, size-append}
 use Rattle.snowball.specs.declared.env.Env.{Env}
 use Rattle.snowball.specs.declared.among.Found.{Found}
 use Rattle.snowball.specs.Rows.{low}
@@ -34,17 +34,20 @@ use Rattle.snowball.specs.Search.{Ahead}
 use Rattle.snowball.specs.Cut.{replaced, moved}
 use Rattle.snowball.specs.Match.{stands_at}
 use Rattle.snowball.specs.Chars.{Chars, with_cursor, AsWide, slice_from}
-use Rattle.snowball.specs.Stands.{work_size, Stands}
+use Rattle.snowball.specs.Stands.{work_size, most_changes, Standing, Stands}
 use Rattle.snowball.proofs.Cut.{moved-behind}
 use Rattle.snowball.proofs.Answers.{low-scalars}
 use Rattle.snowball.proofs.Match.{stands-inside, stands-end, place_match}
+use Rattle.snowball.proofs.Places.{place-within}
 use Rattle.snowball.proofs.Standing.{cursor-within, with_cursor_lem, stands-letters}
 use Rattle.arabic.specs.declared.tried.Searched.{Searched}
 use Rattle.arabic.specs.declared.prefix_halves.TakenRow.{TakenRow}
 use Rattle.arabic.specs.Tried.{Answers}
-use Rattle.arabic.specs.Fronts.{cursor_of, front_places, at_front, HeadPlaced, GivesText, taken_by, Takes, encoded, Puts, InPlace, ChangesInPlace}
+use Rattle.arabic.specs.Changes.{prefix_number, front_number, front_numbers, Noted, with_change}
+use Rattle.arabic.specs.Fronts.{cursor_of, front_places, at_front, HeadPlaced, AtFront, GivesText, taken_by, Takes, encoded, Puts, InPlace, ChangesInPlace}
 use Rattle.arabic.proofs.FrontPlaces.{passing-places, level-places}
-use Rattle.arabic.proofs.Guarded.{taken_is, some_none, some-same}
+use Rattle.arabic.proofs.Guarded.{taken_is, taken_longest, some_none, some-same}
+use Rattle.arabic.proofs.Noting.{in_order-length, noted_more, noted_same, IsNoted, prefix_noted, is_noted}
 
 -- ---- the row that is taken: b says whether the row's guard is met
 pub takes : (s : PrefixStep) (t rest : Word) (at : ℕ) (f : Found) → Ahead (prefix s).table rest at f → (b : Bool) → b ≡ met (prefix s).guards f.class (length t)
@@ -177,8 +180,18 @@ any_here w k ks h = ap (λ (b : Bool). pick b true (begins_with_any w ks)) h
 pub any_next : (w k : Word) (ks : List Word) → begins_with w k ≡ false → begins_with_any w (k ∷ ks) ≡ begins_with_any w ks
 any_next w k ks h = ap (λ (b : Bool). pick b true (begins_with_any w ks)) h
 
+-- ---- what a step changes
+changed_is : (s : PrefixStep) (f : Fronting) (m : Applied) → ((change s f m).applied ≡ m ∷ f.applied) × ((change s f m).rest ≡ drop (length (front_row m)) f.rest)
+unfolding change
+changed_is prefix_step1 f m = (refl, refl)
+changed_is prefix_step2 f m = (refl, refl)
+changed_is prefix_step3a_noun f m = (refl, refl)
+changed_is prefix_step3b_noun f m = (refl, refl)
+changed_is prefix_step3_verb f m = (refl, refl)
+changed_is prefix_step4_verb f m = (refl, refl)
+
 -- ---- the replacement
-module _ (s : PrefixStep) (ps : List ℕ) (w : Fronting) (x : Env) (st : Stands x (at_front ps w)) where
+module _ (s : PrefixStep) (ps : List ℕ) (w : Fronting) (x : Env) (st : AtFront ps x w) where
   -- the row of the search is the step's
   pub row_is : (f : Searched (Maybe TakenRow)) → Takes s (text w) w.rest x.cursor f → begins_with_any w.rest (not_at s) ≡ false → f.row ≡ step_row (of_front s) w.rest
   row_is f tk nb = tk.row ∙ sym (row_searched (of_front s) w.rest nb)
@@ -195,13 +208,13 @@ module _ (s : PrefixStep) (ps : List ℕ) (w : Fronting) (x : Env) (st : Stands 
       go none q = subst (GivesText ps (Err x)) (apply_is nb none q) st
       go (some r) q = absurd (some_none (sym (h ∙ ap (taken_by s x.cursor) q)))
 
-  -- a row is taken
-  module _ (f : TakenRow) (h : Some f ≡ taken_by s x.cursor (taken (begins_with w.rest) (prefix s) (length (text w)))) where
-    pub row-taken : (r : ℕ) × (taken (begins_with w.rest) (prefix s) (length (text w)) ≡ some r)
+  -- a row is taken: g is what was found
+  module _ (g : Searched (Maybe TakenRow)) (tk : Takes s (text w) w.rest x.cursor g) (f : TakenRow) (found : g.outcome ≡ Some f) where
+    row-taken : (r : ℕ) × (taken (begins_with w.rest) (prefix s) (length (text w)) ≡ some r)
     row-taken = go (taken (begins_with w.rest) (prefix s) (length (text w))) refl
       where
         go : (o : Option ℕ) → taken (begins_with w.rest) (prefix s) (length (text w)) ≡ o → (r : ℕ) × (taken (begins_with w.rest) (prefix s) (length (text w)) ≡ some r)
-        go none q = absurd (some_none (h ∙ ap (taken_by s x.cursor) q))
+        go none q = absurd (some_none (sym found ∙ tk.taken ∙ ap (taken_by s x.cursor) q))
         go (some r) q = (r, q)
 
     module _ (r : ℕ) (q : taken (begins_with w.rest) (prefix s) (length (text w)) ≡ some r) where
@@ -212,7 +225,7 @@ module _ (s : PrefixStep) (ps : List ℕ) (w : Fronting) (x : Env) (st : Stands 
       fit = row_fits s r (taken_some (begins_with w.rest) (prefix s) (length (text w)) r q).inside
 
       taken-same : f ≡ record { class = (row_at (prefix s).table r).class; cursor = x.cursor + size (row_at (prefix s).table r).letters }
-      taken-same = some-same (h ∙ ap (taken_by s x.cursor) q)
+      taken-same = some-same (sym found ∙ tk.taken ∙ ap (taken_by s x.cursor) q)
 
       class_is : f.class ≡ (row_at (prefix s).table r).class
       class_is = ap (λ (t : TakenRow). t.class) taken-same
@@ -226,11 +239,32 @@ module _ (s : PrefixStep) (ps : List ℕ) (w : Fronting) (x : Env) (st : Stands 
       place : At (text w) (cursor_of w + length (row_at (prefix s).table r).letters) f.cursor
       place =
           let h : cursor_of w < length (text w) =
-          omega (arith, text-length x ps w st, fit.letters, ap length rest_split, length-append key.letters (drop (length key.letters) w.rest)) in
+          omega (arith, text-length x ps w st.stands, fit.letters, ap length rest_split, length-append key.letters (drop (length key.letters) w.rest)) in
           let m : stands_at (text w) (cursor_of w) key.letters ≡ true =
-          stands-inside (text w) (cursor_of w) key.letters h ∙ ap (λ (z : Word). begins_with z key.letters) (rest_is x ps w st)
+          stands-inside (text w) (cursor_of w) key.letters h ∙ ap (λ (z : Word). begins_with z key.letters) (rest_is x ps w st.stands)
           ∙ (taken_some (begins_with w.rest) (prefix s) (length (text w)) r q).matches in
-          subst (At (text w) (cursor_of w + length key.letters)) (sym cursor_is) (place_match (text w) key.letters (cursor_of w) x.cursor st.cursor m)
+          subst (At (text w) (cursor_of w + length key.letters)) (sym cursor_is) (place_match (text w) key.letters (cursor_of w) x.cursor st.stands.cursor m)
+
+      is : IsNoted (prefix_number s) (prefix s).table r
+      is = is_noted (prefix_number s) (prefix s).table (prefix_noted s) r (taken_some (begins_with w.rest) (prefix s) (length (text w)) r q).inside
+
+      rest-size : size w.rest ≡ size key.letters + size (drop (length key.letters) w.rest)
+      rest-size = ap size rest_split ∙ size-append key.letters (drop (length key.letters) w.rest)
+
+      row-number : g.row ≡ r
+      row-number = tk.row ∙ taken_longest (begins_with w.rest) (prefix s) (length (text w)) r q
+
+    -- the change can be noted
+    module _ (step : ℕ) (first : step ≡ 16 * prefix_number s) where
+      pub can_note : (x.made < most_changes) × (step + g.row < 2 ^ 8)
+      can_note =
+          let r = row-taken in
+          let n = is r.0 r.1 in
+          (omega (arith, st.noted.made ∙ in_order-length front_number w.applied, st.room, rest-size r.0 r.1, n.two_bytes), omega (arith, n.byte, row-number r.0 r.1))
+
+      -- and is noted in z
+      pub noted_in : length x.changes ≡ most_changes → (z : Env) → z ≡ with_change x (step + g.row) → Noted z (front_numbers w.applied ++ ((step + g.row) ∷ []))
+      noted_in l z e = subst (λ (y : Env). Noted y (front_numbers w.applied ++ ((step + g.row) ∷ []))) (sym e) (noted_more x (front_numbers w.applied) (step + g.row) (omega (arith, l, can_note.0)) st.noted)
 
     -- the class is one that is listed
     pub some_class : 1 ≤ f.class
@@ -250,28 +284,35 @@ module _ (s : PrefixStep) (ps : List ℕ) (w : Fronting) (x : Env) (st : Stands 
             let r = row-taken in
             pp ∙ ap (λ (ws : List (List ℕ)). get_or ws (f.class - 1) []) pe ∙ encoded_at (replacements s) (f.class - 1) (omega (arith, (fit r.0 r.1).class, (fit r.0 r.1).listed, class_is r.0 r.1))
 
-        -- the environment whose cut is made, and that it stands for the text
-        abbrev marked : Env
-        marked = record { cursor = f.cursor; limit = x.limit; limit_backward = x.limit_backward; bra = x.cursor; ket = f.cursor; endings = x.endings; current = x.current; places = x.places }
-
         abbrev behind : ℕ → ℕ
         behind r = cursor_of w + length (row_at (prefix s).table r).letters
 
-        marked-stands : (r : ℕ) (q : taken (begins_with w.rest) (prefix s) (length (text w)) ≡ some r) → Stands marked (with_cursor (at_front ps w) (behind r))
-        marked-stands r q = with_cursor_lem x (at_front ps w) st (behind r) f.cursor (place r q)
+        -- e, in which the cursor is behind the row, stands for the text
+        abbrev StandsBehind : Env → Chars → Type 0
+        StandsBehind e c = Standing e.current e.places e.limit f.cursor e.limit_backward c
 
-        pub can_slice : ((c : Chars) × Stands marked c) × ((x.cursor + length put ≤ f.cursor) × (f.cursor ≤ x.limit))
-        unfolding encode
-        can_slice =
-            let r : ℕ = row-taken.0 in
-            let q = row-taken.1 in
-            let u = cursor-within marked (with_cursor (at_front ps w) (behind r)) (marked-stands r q) in
-            let l : length put ≡ size (get_or (replacements s) ((row_at (prefix s).table r).class - 1) []) =
-            ap length new_bytes ∙ ap (λ (c : ℕ). size (get_or (replacements s) (c - 1) [])) (class_is r q) in
-            ((with_cursor (at_front ps w) (behind r), marked-stands r q), (omega (arith, cursor_is r q, (fit r q).shorter), u))
+        stands-behind : (r : ℕ) (q : taken (begins_with w.rest) (prefix s) (length (text w)) ≡ some r) → StandsBehind x (with_cursor (at_front ps w) (behind r))
+        stands-behind r q = with_cursor_lem x (at_front ps w) st.stands (behind r) f.cursor (place r q)
 
-        module _ (nb : begins_with_any w.rest (not_at s) ≡ false) (ch : ChangesInPlace ps s w) (y : Env)
-            (sl : (cs : List ℕ) → Scalars cs → put ≡ encode cs → (c : Chars) → Stands marked c → (b e : ℕ) → At c.text b x.cursor → At c.text e f.cursor → c.back ≤ b → AsWide c.text b e cs → Stands y (slice_from c b e cs)) where
+        -- the change n is noted
+        module _ (n : ℕ) (z : Env) (noting : z ≡ with_change x n) where
+          pub can_slice : ((c : Chars) × StandsBehind z c) × ((z.cursor + length put ≤ f.cursor) × (f.cursor ≤ z.limit))
+          unfolding encode
+          can_slice =
+              let r : ℕ = row-taken.0 in
+              let q = row-taken.1 in
+              let u : f.cursor ≤ x.limit = omega (arith, place-within (text w) (behind r) f.cursor (place r q), st.stands.sized) in
+              let l : length put ≡ size (get_or (replacements s) ((row_at (prefix s).table r).class - 1) []) =
+              ap length new_bytes ∙ ap (λ (c : ℕ). size (get_or (replacements s) (c - 1) [])) (class_is r q) in
+              subst (λ (e : Env). ((c : Chars) × StandsBehind e c) × ((e.cursor + length put ≤ f.cursor) × (f.cursor ≤ e.limit))) (sym noting)
+              ((with_cursor (at_front ps w) (behind r), stands-behind r q), (omega (arith, cursor_is r q, (fit r q).shorter), u))
+
+        -- what slice_from promises of y, where it gets e with the cursor behind the row
+        abbrev SlicedBehind : Env → Env → Type 0
+        SlicedBehind e y = (cs : List ℕ) → Scalars cs → put ≡ encode cs → (c : Chars) → StandsBehind e c → (b k : ℕ) → At c.text b e.cursor → At c.text k f.cursor → c.back ≤ b → AsWide c.text b k cs
+            → Stands y (slice_from c b k cs)
+
+        module _ (nb : begins_with_any w.rest (not_at s) ≡ false) (ch : ChangesInPlace ps s w) (y : Env) where
           wide-cut : (r : ℕ) (q : taken (begins_with w.rest) (prefix s) (length (text w)) ≡ some r) → AsWide (text w) (cursor_of w) (behind r) (replacement (at s r))
           unfolding front_row replacement
           wide-cut r q =
@@ -281,30 +322,40 @@ module _ (s : PrefixStep) (ps : List ℕ) (w : Fronting) (x : Env) (st : Stands 
               let more : Word = drop (length key) w.rest in
               let k : behind r - length cs ≡ cursor_of w + (length key - length cs) = omega (arith, (fit r q).fewer) in
               let cut : take (behind r) (text w) ≡ a ++ key =
-              (λ i. take (cursor_of w + length key) ((split x ps w st ∙ ap (λ (z : Word). a ++ z) (rest_split r q)) i))
+              (λ i. take (cursor_of w + length key) ((split x ps w st.stands ∙ ap (λ (z : Word). a ++ z) (rest_split r q)) i))
               ∙ take-append-add a (key ++ more) (length key) ∙ ap (λ (z : Word). a ++ z) (take-append_seam key more) in (
                 omega (arith, (fit r q).fewer),
                 (λ i. widths (drop (k i) (cut i))) ∙ ap widths (drop-append-add a key (length key - length cs)) ∙ (fit r q).wide,
               )
 
-          stands-changed : (r : ℕ) (q : taken (begins_with w.rest) (prefix s) (length (text w)) ≡ some r) → Stands y (at_front ps (change s w (record { step = s; row = r })))
+          stands-changed : SlicedBehind x y → (r : ℕ) (q : taken (begins_with w.rest) (prefix s) (length (text w)) ≡ some r) → Stands y (at_front ps (change s w (at s r)))
           unfolding front_row replacement
-          stands-changed r q =
-              let m : Applied = record { step = s; row = r } in
+          stands-changed sl r q =
+              let m : Applied = at s r in
               let cs : Word = replacement m in
               let p = ch r q in
               let e : put ≡ encode cs = new_bytes ∙ ap (λ (c : ℕ). encode (get_or (replacements s) (c - 1) [])) (class_is r q) in
-              let v = sl cs (fit r q).scalars e (with_cursor (at_front ps w) (behind r)) (marked-stands r q) (cursor_of w) (behind r) st.cursor (place r q) (omega arith) (wide-cut r q) in
+              let v = sl cs (fit r q).scalars e (with_cursor (at_front ps w) (behind r)) (stands-behind r q) (cursor_of w) (behind r) st.stands.cursor (place r q) (omega arith) (wide-cut r q) in
               let mv : moved (behind r) (cursor_of w) (behind r) (length cs) ≡ cursor_of (change s w m) =
               sym (moved-behind (behind r) (cursor_of w) (behind r) (length cs) (omega arith))
               ∙ (let z : behind r - (behind r - cursor_of w) + length cs ≡ cursor_of w + length cs = omega arith in z) ∙ p.cursor in
               subst (Stands y) (λ i. record { text = p.text i; places = p.places i; cursor = mv i; back = 0 }) v
 
-          pub is_replaced : GivesText ps (Ok y) (apply s w)
-          is_replaced =
+          -- z is the environment in which the change is noted
+          pub is_replaced : (step : ℕ) → step ≡ 16 * prefix_number s → length x.changes ≡ most_changes → (z : Env) → z ≡ with_change x (step + g.row)
+              → SlicedBehind z y → y.made ≡ z.made → y.changes ≡ z.changes → GivesText ps (Ok y) (apply s w)
+          unfolding front_row
+          is_replaced step first l z e sl made changes =
               let r : ℕ = row-taken.0 in
               let q = row-taken.1 in
-              subst (GivesText ps (Ok y)) (apply_is nb (some r) q) (stands-changed r q)
+              let c = changed_is s w (at s r) in
+              let number : step + g.row ≡ front_number (at s r) = omega (arith, row-number r q) in
+              subst (GivesText ps (Ok y)) (apply_is nb (some r) q)
+              (record {
+                stands = stands-changed (subst (λ (z : Env). SlicedBehind z y) e sl) r q;
+                noted = subst (Noted y) (ap (λ (n : ℕ). front_numbers w.applied ++ (n ∷ [])) number ∙ ap front_numbers (sym c.0)) (noted_same z y _ made changes (noted_in step first l z e));
+                room = omega (arith, ap length c.0, ap size c.1, rest-size r q, (is r q).two_bytes, st.room);
+              })
 
 -- ---- what the steps make of a text
 -- every step but Step1 passes what it puts
@@ -349,8 +400,8 @@ headed_in_place ps w m e = record {
 
 -- ---- what holds behind a step: where it fails, of the state before it, and where it succeeds, of what it has changed
 pub holds_behind : (S F : Env → Fronting → Type 0) (s : PrefixStep) (ps : List ℕ) (w : Fronting)
-    → ((e : Env) → Stands e (at_front ps w) → F e w)
-    → ((r : ℕ) → taken (begins_with w.rest) (prefix s) (length (text w)) ≡ some r → (e : Env) → Stands e (at_front ps (change s w (at s r))) → S e (change s w (at s r)))
+    → ((e : Env) → AtFront ps e w → F e w)
+    → ((r : ℕ) → taken (begins_with w.rest) (prefix s) (length (text w)) ≡ some r → (e : Env) → AtFront ps e (change s w (at s r)) → S e (change s w (at s r)))
     → (t : Result Env Env) → GivesText ps t (apply s w) → Answers S F t (apply s w)
 unfolding apply
 holds_behind S F s ps w f d t g = bar (begins_with_any w.rest (not_at s)) t g

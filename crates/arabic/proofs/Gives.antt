@@ -7,7 +7,6 @@ use native.Mathlib.Omega.{arith}
 use lib.Dec.{eqb, leb, ltb}
 use lib.ListN.{length, get_or, get_or-map}
 use borrow.Author.Tests.{ltb-true, le-leb}
-use Rattle.std.specs.Prelude.{Option, Some}
 use Rattle.std.specs.Borrow.{Bor}
 use Rattle.utf8.specs.Utf8.{Scalar, Scalars, encode1, encode}
 use Rattle.utf8.proofs.Text.{encode_one, scalars-append}
@@ -48,17 +47,19 @@ given_at (suc n) k (suc j) h =
     let e : suc k + j ≡ k + suc j = omega arith in
     given_at n (suc k) j (omega arith) ∙ ap (λ (i : ℕ). encode (listed_for gives i)) e
 
+pub class_given : (k : ℕ) → k < 56 → get_or all_gives k [] ≡ encode (listed_for gives k)
+unfolding all_gives
+class_given k h = let e : 0 + k ≡ k = omega arith in given_at 56 0 k h ∙ ap (λ (i : ℕ). encode (listed_for gives i)) e
+
 -- what the class k gives, where the references xs are to what the classes give
-pub gives_at : (xs : List (Bor (List ℕ))) (i k : ℕ) (d : Bor (List ℕ)) (class : Option ℕ) (letter : List ℕ) → class ≡ Some k → d.now ≡ [] → map (λ (b : Bor (List ℕ)). b.now) xs ≡ all_gives → i ≡ k
-    → (get_or xs i d).now ≡ given_bytes class letter
-gives_at xs i k d class letter c e f q =
-    sym (get_or-map (λ (b : Bor (List ℕ)). b.now) xs i d) ∙ (λ j. get_or (f j) (q j) (e j)) ∙ ap (λ (o : Option ℕ). given_bytes o letter) (sym c)
+pub gives_at : (xs : List (Bor (List ℕ))) (i k : ℕ) (d : Bor (List ℕ)) → d.now ≡ [] → map (λ (b : Bor (List ℕ)). b.now) xs ≡ all_gives → i ≡ k → k < 56 → (get_or xs i d).now ≡ encode (listed_for gives k)
+gives_at xs i k d e f q h = sym (get_or-map (λ (b : Bor (List ℕ)). b.now) xs i d) ∙ (λ j. get_or (f j) (q j) (e j)) ∙ class_given k h
 
 -- the bytes of what stands for the letter c
 pub given_is : (c k : ℕ) → k < 56 → given_bytes (listed k) (encode1 c) ≡ encode (given c k)
 unfolding given all_gives
 given_is c zero h = sym (ap encode (kept c) ∙ encode_one c)
-given_is c (suc k) h = let e : 0 + suc k ≡ suc k = omega arith in given_at 56 0 (suc k) h ∙ ap (λ (i : ℕ). encode (listed_for gives i)) e
+given_is c (suc k) h = class_given (suc k) h
 
 -- ---- what is given are scalar values
 

@@ -1,7 +1,7 @@
 -- The row that a step takes, as the code decides it: by the row's class, the guard and the letter count. Assumes nothing.
 use mathlib.Core.Path.{◌≡◌, refl, sym, ap, ◌∙◌, subst}
 use Rattle.std.specs.Prelude.{Option as Maybe, Some, None, MatchOption, unwrap_or}
-use mathlib.Core.Bool.{Bool, false}
+use mathlib.Core.Bool.{Bool, true, false}
 use mathlib.Core.List.{List}
 use mathlib.Core.Option.{none, some}
 use Prim.Native.Nat.{ℕ, zero, suc, ◌-◌}
@@ -10,7 +10,7 @@ use lib.Dec.{leb}
 use lib.ListN.{length, take, drop, length-drop}
 use lib.Seq.{take-length, take-take}
 use Rattle.definition.specs.Words.{Word, pick}
-use Rattle.definition.specs.Search.{Rule, row_at, longest, least_letters, met, taken}
+use Rattle.definition.specs.Search.{Rule, row_at, longest, least_letters, met, guard_met, taken}
 use Rattle.snowball.specs.Search.{between}
 
 -- ---- guards
@@ -30,6 +30,15 @@ pub taken_is : (match : Word → Bool) (s : Rule) (n class : ℕ) → class ≡ 
     → (b : Bool) → b ≡ met s.guards class n → taken match s n ≡ pick b (some (longest match s.table)) none
 unfolding taken
 taken_is match s n class c b h = ap (λ (x : Bool). pick x (some (longest match s.table)) none) (ap (λ (k : ℕ). met s.guards k n) (sym c) ∙ sym h)
+
+-- and it is the longest
+pub taken_longest : (match : Word → Bool) (s : Rule) (n r : ℕ) → taken match s n ≡ some r → longest match s.table ≡ r
+unfolding taken
+taken_longest match s n r = go (guard_met s (longest match s.table) n)
+  where
+    go : (b : Bool) → pick b (some (longest match s.table)) none ≡ some r → longest match s.table ≡ r
+    go true e = cc
+    go false e = let z : ◌≡◌ {A = ℕ} 0 1 = cc in absurd (omega arith)
 
 -- ---- all bytes of a text
 pub whole : (t : List ℕ) → between t 0 (length t) ≡ t

@@ -17,7 +17,8 @@ use Rattle.snowball.specs.declared.env.Env.{Env}
 use Rattle.snowball.specs.Chars.{started}
 use Rattle.snowball.specs.Stands.{Standing, Stands}
 use Rattle.arabic.specs.Endings.{at_end, left_of, Ends}
-use Rattle.arabic.specs.Fronts.{front_places, at_front, Passed}
+use Rattle.arabic.specs.Fronts.{front_places, AtFront, Passed}
+use Rattle.arabic.proofs.Noting.{none_noted}
 
 module _ (x : Env) (w : Word) (ps : List ℕ) where
   -- a place for each letter and no more
@@ -36,21 +37,22 @@ module _ (x : Env) (w : Word) (ps : List ℕ) where
   }
 
   -- where the endings begin none is cut
-  pub none_cut : Stands x (at_end ps w) → x.endings ≡ 0 → Ends ps x (uncut w)
-  none_cut st z = record { stands = st; counted = z; room = omega (arith, z, st.within) }
+  pub none_cut : Stands x (at_end ps w) → x.made ≡ 0 → Ends ps x (uncut w)
+  none_cut st z = record { stands = st; noted = none_noted x z; room = omega (arith, z, st.within) }
 
   pub to_front : Stands x (at_end ps w) → Standing x.current x.places x.limit x.limit_backward x.limit_backward (left_of ps w)
   to_front st = record { scalars = st.scalars; bytes = st.bytes; sized = st.sized; within = st.within; placed = st.placed; cursor = st.back; back = st.back }
 
-  pub at_start : Stands x (started w ps) → Stands x (at_front ps (definition.started w))
+  -- where the fronts begin none is changed
+  pub at_start : Stands x (started w ps) → x.made ≡ 0 → AtFront ps x (definition.started w)
   unfolding definition.started
-  at_start st = st
+  at_start st z = record { stands = st; noted = none_noted x z; room = omega (arith, st.sized, st.within) }
 
 -- the cursor of the environment e that the fronts began with
 pub back_to : (e x : Env) (w : Word) (ps : List ℕ) (g : Fronting) → Stands e (started w ps) → Passed ps x g → Standing x.current x.places x.limit e.cursor x.limit_backward (started (text g) (front_places ps g))
 unfolding encode
 back_to e x w ps g s p =
-    let st = p.stands in
+    let st = p.state.stands in
     record {
       scalars = st.scalars;
       bytes = st.bytes;

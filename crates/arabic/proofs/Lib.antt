@@ -1,6 +1,7 @@
 -- The main theorems, and the laws that the proofs of the Arabic steps cite.
 pub mod Main
 pub mod Guarded
+pub mod Noting
 pub mod Ending
 pub mod FrontPlaces
 pub mod Fronted
@@ -16,7 +17,7 @@ pub mod Gives
 pub mod Passing
 pub mod Marking
 pub mod Normalising
-pub mod Changes
+pub mod FinishedLetter
 pub mod Finishing
 pub mod Standing
 pub mod Checking

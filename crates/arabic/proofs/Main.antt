@@ -11,7 +11,7 @@ use Rattle.definition.specs.Finish.{finish}
 use Rattle.snowball.specs.Stands.{work_size, longest_word}
 use Rattle.arabic.specs.Rows.{classes, row_of, class_of, right_table}
 use Rattle.arabic.proofs.Table.{right_table_lem, class_at, normalise_grows}
-use Rattle.arabic.proofs.Changes.{finish-size}
+use Rattle.arabic.proofs.FinishedLetter.{finish-size}
 
 -- the one test of A_0: 161 rows, whose keys rise, each of one letter and a class, with what each class gives
 pub main_table : right_table ≡ true

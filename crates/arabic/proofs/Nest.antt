@@ -7,6 +7,8 @@ use native.Mathlib.Omega.{arith}
 use lib.ListN.{length}
 use Rattle.definition.specs.Tries.{Try, done, failed, Step, after, and_then, if_failed, nothing, ◌then_try◌, attempt, again}
 use Rattle.definition.specs.Endings.{Cutting, uncut, cut, verb_step1, verb_step2a, verb_step2b, verb_step2c, noun_step1b, noun_step2a, noun_step2b, noun_step2c1, noun_step2c2, noun_step3, verb, noun, endings, suffix_all_alef_maqsura, maqsura_if_failed}
+use Rattle.definition.specs.Tables.{A_21}
+use Rattle.definition.specs.StepRow.{alef_maqsura, step_row}
 use Rattle.definition.specs.Words.{Word}
 use Rattle.definition.specs.Fronts.{Fronting, prefix_step1, prefix_step2, prefix_step3a_noun, prefix_step3b_noun, prefix_step3_verb, prefix_step4_verb, apply, prefix_steps}
 use Rattle.definition.specs.Kind.{Kind, if_open}
@@ -15,8 +17,12 @@ use Rattle.snowball.specs.declared.env.Env.{Env}
 use Rattle.snowball.specs.Stands.{Stands}
 use Rattle.snowball.specs.Stands.{handed_back}
 use Rattle.arabic.specs.Tried.{Answers}
-use Rattle.arabic.specs.Endings.{at_end, Ends, Ready, Gives}
+use Rattle.arabic.specs.declared.tried.Counted.{Counted}
+use Rattle.arabic.specs.declared.tried.Searched.{Searched}
+use Rattle.arabic.specs.Endings.{at_end, Ends, Ready, Gives, maqsura_row, EndingsCut}
 use Rattle.arabic.specs.Fronts.{Passed, Fronts, GivesThird, GivesPassed}
+use Rattle.arabic.specs.Changes.{cut_number, cut_numbers}
+use Rattle.arabic.proofs.Noting.{in_order-length, noted_same}
 use Rattle.arabic.proofs.Repeat.{after-fits}
 use Rattle.arabic.specs.Nests.{after_step1, after_step1b, by_step1b, noun_first, verb_steps, prefix_step3}
 
@@ -118,24 +124,30 @@ pub endings_is : (k : Kind) (w : Word) → if_failed (if_open k verb (uncut w)) 
 unfolding endings
 endings_is k w = sym (first_from_lem (if_open k verb) (noun k ∷ []) (uncut w))
 
--- what the noun and the verb leave with y, and how many endings were cut
-abbrev Left : List ℕ → Env → ℕ → Try Cutting → Type 0
-Left ps e n y = Stands e (at_end ps (maqsura_if_failed y (after y).text)) × (n ≡ length (after y).cuts)
+-- item 3 whole, where verb and noun leave y
+abbrev Leaves : List ℕ → Try Cutting → Searched Counted → Type 0
+Leaves ps y r = Stands r.outcome.env (at_end ps (maqsura_if_failed y (after y).text)) × EndingsCut y r
 
-pub maqsura-done : (ps : List ℕ) (e : Env) (y : Try Cutting) → Gives ps (Ok e) y → Left ps e e.endings y
-unfolding maqsura_if_failed
-maqsura-done ps e (done v) g = (g.stands, g.counted)
+how_many : (ps : List ℕ) (e : Env) (v : Cutting) → Ends ps e v → e.made ≡ length v.cuts
+how_many ps e v g = g.noted.made ∙ in_order-length cut_number v.cuts
+
+pub maqsura-done : (ps : List ℕ) (e : Env) (y : Try Cutting) → Gives ps (Ok e) y → Leaves ps y (record { row = length A_21; outcome = record { endings = e.made; env = e } })
+unfolding maqsura_if_failed maqsura_row
+maqsura-done ps e (done v) g = (g.stands, record { row = refl; noted = g.noted; number = how_many ps e v g })
 maqsura-done ps e (failed v) g = absurd g
 
-pub maqsura-failed : (ps : List ℕ) (e r : Env) (y : Try Cutting) → Gives ps (Err e) y
-    → ((w : Word) → Stands e (at_end ps w) → Stands r (at_end ps (suffix_all_alef_maqsura w))) → Left ps r e.endings y
-unfolding maqsura_if_failed
-maqsura-failed ps e r (done v) g f = absurd g
-maqsura-failed ps e r (failed v) g f = (f v.text g.stands, g.counted)
+pub maqsura-failed : (ps : List ℕ) (e : Env) (r : Searched Env) (y : Try Cutting) → Gives ps (Err e) y
+    → ((w : Word) → Stands e (at_end ps w) → Stands r.outcome (at_end ps (suffix_all_alef_maqsura w)) × (r.row ≡ step_row alef_maqsura w)) → r.outcome.made ≡ e.made → r.outcome.changes ≡ e.changes
+    → Leaves ps y (record { row = r.row; outcome = record { endings = e.made; env = r.outcome } })
+unfolding maqsura_if_failed maqsura_row
+maqsura-failed ps e r (done v) g f m c = absurd g
+maqsura-failed ps e r (failed v) g f m c =
+    let q = f v.text g.stands in
+    (q.0, record { row = q.1; noted = noted_same e r.outcome (cut_numbers v.cuts) m c g.noted; number = how_many ps e v g })
 
 -- ---- item 4
 pub passed_of : (ps : List ℕ) (e : Env) (f : Fronting) → Fronts ps e f → Passed ps e f
-passed_of ps e f h = record { stands = h.stands; placed = h.placed }
+passed_of ps e f h = record { state = h.state; placed = h.placed }
 
 pub third_passed : (ps : List ℕ) (t : Result Env Env) (y : Try Fronting) → GivesThird ps t y → GivesPassed ps t y
 third_passed ps (Ok e) (done a) h = h

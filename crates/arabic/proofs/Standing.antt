@@ -19,7 +19,7 @@ use Rattle.utf8.proofs.Beside.{at_letters-wide}
 use Rattle.arabic.specs.Texts.{typed_text, Normalised, Finished}
 use Rattle.arabic.proofs.Marking.{plain_places}
 use Rattle.arabic.proofs.Gives.{normalise-scalars}
-use Rattle.arabic.proofs.Changes.{finish-wide, finish-size, finish-scalars}
+use Rattle.arabic.proofs.FinishedLetter.{finish-wide, finish-size, finish-scalars}
 
 module _ {current places : List ℕ} {limit at behind : ℕ} where
   -- the text in bytes

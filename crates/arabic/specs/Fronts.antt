@@ -13,10 +13,11 @@ use Rattle.utf8.specs.Places.{size}
 use Rattle.snowball.specs.declared.env.Env.{Env}
 use Rattle.snowball.specs.Cut.{replaced}
 use Rattle.snowball.specs.Chars.{Chars}
-use Rattle.snowball.specs.Stands.{Stands}
+use Rattle.snowball.specs.Stands.{work_size, Stands}
 use Rattle.arabic.specs.declared.tried.Searched.{Searched}
 use Rattle.arabic.specs.declared.prefix_halves.TakenRow.{TakenRow}
 use Rattle.arabic.specs.Tried.{Answers}
+use Rattle.arabic.specs.Changes.{front_numbers, Noted}
 
 -- how many letters are in front of the cursor
 abbrev pub cursor_of : Fronting → ℕ
@@ -37,14 +38,20 @@ pub record HeadPlaced (ps : List ℕ) (f : Fronting) : Type 0 where
   pub head : length (head_places ps f) ≡ length f.head_letter
   pub two : 2 * length f.head_letter ≤ length f.front
 
--- e stands for the state f of item 4
-pub record Passed (ps : List ℕ) (e : Env) (f : Fronting) : Type 0 where
+-- e stands for the state f of item 4, and has the changes of the front, each of which took two bytes at least
+pub record AtFront (ps : List ℕ) (e : Env) (f : Fronting) : Type 0 where
   pub stands : Stands e (at_front ps f)
+  pub noted : Noted e (front_numbers f.applied)
+  pub room : 2 * length f.applied + size f.rest ≤ work_size
+
+-- and the head letter has its place
+pub record Passed (ps : List ℕ) (e : Env) (f : Fronting) : Type 0 where
+  pub state : AtFront ps e f
   pub placed : HeadPlaced ps f
 
 -- and nothing is passed yet
 pub record Fronts (ps : List ℕ) (e : Env) (f : Fronting) : Type 0 where
-  pub stands : Stands e (at_front ps f)
+  pub state : AtFront ps e f
   pub placed : HeadPlaced ps f
   pub unpassed : f.passed ≡ []
 
@@ -56,7 +63,7 @@ ReadyPassed e = (f : Fronting) × ((ps : List ℕ) × Passed ps e f)
 
 -- at the start nothing is changed
 abbrev pub ReadyStart : Env → Type 0
-ReadyStart e = (w : Word) × ((ps : List ℕ) × Stands e (at_front ps (started w)))
+ReadyStart e = (w : Word) × ((ps : List ℕ) × AtFront ps e (started w))
 
 -- Step1 and Step2 pass nothing; a step of Step3 that succeeds passes what it puts; and so does Step4_Verb
 abbrev pub GivesFront : List ℕ → Result Env Env → Try Fronting → Type 0
@@ -68,9 +75,9 @@ GivesThird ps r y = Answers (Passed ps) (Fronts ps) r y
 abbrev pub GivesPassed : List ℕ → Result Env Env → Try Fronting → Type 0
 GivesPassed ps r y = Answers (Passed ps) (Passed ps) r y
 
--- what any step gives: the text and the places
+-- what any step gives: the text, the places and the changes
 abbrev pub GivesText : List ℕ → Result Env Env → Try Fronting → Type 0
-GivesText ps r y = Answers (λ (e : Env) (f : Fronting). Stands e (at_front ps f)) (λ (e : Env) (f : Fronting). Stands e (at_front ps f)) r y
+GivesText ps r y = Answers (AtFront ps) (AtFront ps) r y
 
 -- ---- the row that a step takes
 -- its class, and the place behind it; none where the step takes none

@@ -1,8 +1,10 @@
 // The Rust's arabic.rs: the tables, the steps, and the stem on an environment.
-// Some functions are marked inline(always), where that spares a copy of the environment, which a call makes.
+// Some functions are marked inline(always), where that spares a copy of the environment, which a call makes, and some inline(never), where
+// the function copied in would cost more copies than the call.
 #![tactic(auto)]
 
 pub mod a_0;
+pub mod changes;
 pub mod context;
 pub mod kind;
 pub mod normalize;

@@ -2,10 +2,11 @@
 ghost use Rattle.std.specs.Prelude.{◌≡◌, false, List, ℕ, ◌+◌, ◌<◌, ◌≤◌, length, IfSome};
 ghost use Rattle.definition.specs.Words.{Word, every};
 ghost use Rattle.definition.specs.Facts.{plain_letter};
-ghost use Rattle.definition.specs.Normal.{normalise};
+ghost use Rattle.definition.specs.Normal.{gives, listed_for, normalise};
 ghost use Rattle.definition.specs.Finish.{last, other, finish};
 ghost use Rattle.snowball.specs.Chars.{Chars, started};
 ghost use Rattle.snowball.specs.Stands.{work_size, longest_word, Stands, Holds};
+ghost use Rattle.utf8.specs.Utf8.{encode};
 ghost use Rattle.utf8.specs.Spelt.{Encodes, Spelt};
 ghost use Rattle.utf8.specs.Beside.{at_letters};
 ghost use Rattle.places.specs.Places.{Typed, letters_of, places_of, normal_places};
@@ -36,12 +37,27 @@ fn all_plain(text: &[u8]) -> bool
     true
 }
 
-// The class of the letter c in A_0, and none where no row has the letter. A plain letter is not searched.
+// The class of the letter c in A_0, and none where no row has the letter.
+pub fn listed_class(c: u32) -> Option<u8>
+    ensures { result ≡ listed (class_of c) }
+{
+    A_0_KEYS.binary_search(&c).ok().map(|row| A_0_CLASSES[row])
+}
+
+// The same of a letter that is not plain: a plain letter is not searched.
 fn class_of(c: u32) -> Option<u8>
     requires { plain_letter c ≡ false }
     ensures { result ≡ listed (class_of c) }
 {
-    A_0_KEYS.binary_search(&c).ok().map(|row| A_0_CLASSES[row])
+    listed_class(c)
+}
+
+// The bytes of the letters that a class gives.
+pub fn class_gives(class: u8) -> &'static [u8]
+    requires { class < 56 }
+    ensures { result.now ≡ encode (listed_for gives class) }
+{
+    A_0_GIVES[usize::from(class)]
 }
 
 // The bytes of what stands for a letter: those that its class gives, or its own where it has none.
@@ -50,7 +66,7 @@ fn given<'a>(class: Option<u8>, letter: &'a [u8]) -> &'a [u8]
     ensures { result.now ≡ given_bytes class letter.now }
 {
     match class {
-        Some(class) => A_0_GIVES[usize::from(class)],
+        Some(class) => class_gives(class),
         None => letter,
     }
 }

@@ -58,6 +58,7 @@ fn first_cut(env: Env, b_is_defined: bool) -> Env
 }
 
 // The noun: its first alternative, and then Step3.
+#[inline(never)]
 pub fn noun(env: Env, b_is_defined: bool) -> Tried
     requires { Ready env }
     ensures { (ps : List ℕ) (v : Cutting) → Ends ps env v → Gives ps result (noun (kind_of b_is_defined) v) }

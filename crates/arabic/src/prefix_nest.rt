@@ -3,8 +3,7 @@ ghost use Rattle.std.specs.Prelude.{List, ℕ};
 ghost use Rattle.definition.specs.Words.{Word};
 ghost use Rattle.definition.specs.Kind.{if_open};
 ghost use Rattle.definition.specs.Fronts.{Fronting, prefix_steps, started};
-ghost use Rattle.snowball.specs.Stands.{Stands};
-ghost use Rattle.arabic.specs.Fronts.{at_front, Fronts, ReadyFront, ReadyStart, GivesPassed};
+ghost use Rattle.arabic.specs.Fronts.{AtFront, Fronts, ReadyFront, ReadyStart, GivesPassed};
 ghost use Rattle.arabic.specs.Kinds.{kind_by_verb};
 ghost use Rattle.arabic.specs.Nests.{verb_steps, prefix_step3};
 
@@ -39,9 +38,10 @@ fn prefix_Step3(env: Env, context: Context) -> Tried
 }
 
 // Step1 and Step2, whether they succeed or not, and then Step3.
+#[inline(always)]
 pub fn prefixes(env: Env, context: Context) -> Tried
     requires { ReadyStart env }
-    ensures { (ps : List ℕ) (w : Word) → Stands env (at_front ps (started w)) → GivesPassed ps result (prefix_steps (kind_by_verb context.b_is_verb) (started w)) }
+    ensures { (ps : List ℕ) (w : Word) → AtFront ps env (started w) → GivesPassed ps result (prefix_steps (kind_by_verb context.b_is_verb) (started w)) }
 {
     let first = left_by(r_Prefix_Step1(env).outcome);
     let second = left_by(r_Prefix_Step2(first).outcome);

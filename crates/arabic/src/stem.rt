@@ -10,7 +10,8 @@ ghost use Rattle.definition.specs.Stem.{cutting, stem_of, stem, chain};
 ghost use Rattle.snowball.specs.Chars.{started};
 ghost use Rattle.snowball.specs.Stands.{longest_word, Stands};
 ghost use Rattle.places.specs.Places.{Typed, letters_of, normal_places, stem_places};
-ghost use Rattle.arabic.specs.Endings.{left_of};
+ghost use Rattle.arabic.specs.Changes.{front_numbers, Noted};
+ghost use Rattle.arabic.specs.Endings.{left_of, EndingsCut};
 ghost use Rattle.arabic.specs.Fronts.{front_places};
 ghost use Rattle.arabic.specs.Contexts.{OneKind};
 ghost use Rattle.arabic.specs.Kinds.{kind_by_verb, kind_of};
@@ -20,30 +21,34 @@ use crate::context::{Context, checked};
 use crate::normalize::{r_Normalize_post, r_Normalize_pre};
 use crate::prefix_nest::prefixes;
 use crate::suffix_nest::suffixes;
-use crate::tried::{Counted, left_by};
+use crate::tried::{Counted, Searched, left_by};
 use snowball::env::{Env, count_chars};
 
-// Item 3: the endings, backward from the end of the text, counted from 0. The cursor then goes back to the front.
-fn cut_endings(mut env: Env, context: Context) -> Counted
+// Item 3: the endings, backward from the end of the text, and the row of the search for a last 0649. The cursor then goes back to the front.
+#[inline(always)]
+pub fn cut_endings(mut env: Env, context: Context) -> Searched<Counted>
     requires { ((w : Word) × ((ps : List ℕ) × Stands env (started w ps))) × OneKind context }
-    ensures { (w : Word) (ps : List ℕ) → Stands env (started w ps)
-        → Stands result.env (left_of ps (maqsura_if_failed (endings (kind_of context.b_is_defined) w) (after (endings (kind_of context.b_is_defined) w)).text))
-        × (result.endings ≡ length (after (endings (kind_of context.b_is_defined) w)).cuts) }
+    ensures stands { (w : Word) (ps : List ℕ) → Stands env (started w ps)
+        → Stands result.outcome.env (left_of ps (maqsura_if_failed (endings (kind_of context.b_is_defined) w) (after (endings (kind_of context.b_is_defined) w)).text)) }
+    ensures cut { (w : Word) (ps : List ℕ) → Stands env (started w ps) → EndingsCut (endings (kind_of context.b_is_defined) w) result }
 {
-    env.endings = 0;
+    env.made = 0; // no ending is cut yet
     env.limit_backward = env.cursor;
     env.cursor = env.limit;
     let mut cut = suffixes(env, context);
-    cut.env.cursor = cut.env.limit_backward;
+    cut.outcome.env.cursor = cut.outcome.env.limit_backward;
     cut
 }
 
-// Item 4: the fronts. The cursor then goes back to the front.
-fn change_front(env: Env, context: Context) -> Env
+// Item 4: the fronts, with no ending among their changes. The cursor then goes back to the front.
+#[inline(always)]
+pub fn change_front(mut env: Env, context: Context) -> Env
     requires { (w : Word) × ((ps : List ℕ) × Stands env (started w ps)) }
-    ensures { (w : Word) (ps : List ℕ) → Stands env (started w ps)
+    ensures stands { (w : Word) (ps : List ℕ) → Stands env (started w ps)
         → Stands result (started (text (fronts (kind_by_verb context.b_is_verb) w)) (front_places ps (fronts (kind_by_verb context.b_is_verb) w))) }
+    ensures noted { (w : Word) (ps : List ℕ) → Stands env (started w ps) → Noted result (front_numbers (fronts (kind_by_verb context.b_is_verb) w).applied) }
 {
+    env.made = 0; // no front is changed yet
     let cursor = env.cursor;
     let mut changed = left_by(prefixes(env, context));
     changed.cursor = cursor;
@@ -51,6 +56,7 @@ fn change_front(env: Env, context: Context) -> Env
 }
 
 // Item 5, with as many turns as the text has letters.
+#[inline(always)]
 pub fn finish_letters(env: Env) -> Env
     requires { (w : Word) × ((ps : List ℕ) × Stands env (started w ps)) }
     ensures { (w : Word) (ps : List ℕ) → Stands env (started w ps) → Stands result (started (finish w) ps) }
@@ -67,7 +73,7 @@ fn stem_of(env: Env, context: Context) -> Counted
         × (result.endings ≡ length (cutting (kind_of context.b_is_defined) (normalise (letters_of ts))).cuts) }
 {
     let normalised = r_Normalize_pre(env);
-    let cut = cut_endings(normalised, context);
+    let cut = cut_endings(normalised, context).outcome;
     let changed = change_front(cut.env, context);
     Counted {
         endings: cut.endings,

@@ -1,12 +1,14 @@
-// The two halves of a step that cuts an ending: the row and where the ending begins, read off the text, and the cut.
-ghost use Rattle.std.specs.Prelude.{◌≡◌, List, ℕ, ◌≤◌, length, IfSome};
+// A step that cuts an ending: the row and where the ending begins, read off the text, and then the cut.
+ghost use Rattle.std.specs.Prelude.{◌≡◌, List, ℕ, ◌*◌, ◌≤◌, length, IfSome};
 ghost use Rattle.definition.specs.Words.{Word};
 ghost use Rattle.definition.specs.Endings.{SuffixStep, suffix, Cutting, cut};
 ghost use Rattle.definition.specs.StepRow.{of_ending, step_row};
 ghost use Rattle.utf8.specs.Spelt.{Encodes, Spelt};
 ghost use Rattle.arabic.specs.Endings.{Ends, Ready, Gives, TakesEnding};
+ghost use Rattle.arabic.specs.Changes.{suffix_number};
 ghost use Rattle.arabic.specs.Tried.{IsRule};
 
+use crate::changes::note;
 use crate::tried::{Searched, Tried, met};
 use snowball::among::find_among_b;
 use snowball::env::Env;
@@ -27,13 +29,21 @@ pub fn ending(text: &[u8], table: &Among<'_, Backward>, guards: &[u8]) -> Search
     }
 }
 
-// Deletes the ending that was found, and counts it: what slice_del does at the end of the text, where no byte moves. Where there is none
-// the step fails, and the environment is as it was.
-pub fn cut_ending(mut env: Env, found: Searched<Option<usize>>) -> Searched<Tried>
-    requires { Ready env × IfSome found.outcome (λ place. place ≤ env.limit) }
-    ensures { (s : SuffixStep) (ps : List ℕ) (v : Cutting) → Ends ps env v → TakesEnding s v.text env.limit found
-        → Gives ps result.outcome (cut s v) × (result.row ≡ step_row (of_ending s) v.text) }
+// A step that cuts, with this table, these guards and the first number of its changes. It deletes the ending that is found, and notes it:
+// what slice_del does at the end of the text, where no byte moves. Where there is none it fails, and the environment is as it was. The cut
+// is not a function of its own, where noting it would cost two more copies of the environment.
+#[inline(always)]
+pub fn suffix_step(
+    mut env: Env,
+    table: &Among<'_, Backward>,
+    guards: &[u8],
+    step: u8,
+) -> Searched<Tried>
+    requires { Ready env × ((s : SuffixStep) × (IsRule (suffix s) table.now.rows.now table.now.lens.now table.now.classes.now guards.now × (step ≡ 16 * suffix_number s))) }
+    ensures { (s : SuffixStep) → IsRule (suffix s) table.now.rows.now table.now.lens.now table.now.classes.now guards.now → step ≡ 16 * suffix_number s
+        → (ps : List ℕ) (v : Cutting) → Ends ps env v → Gives ps result.outcome (cut s v) × (result.row ≡ step_row (of_ending s) v.text) }
 {
+    let found = ending(env.text(), table, guards);
     let row = found.row;
     let Some(place) = found.outcome else {
         return Searched {
@@ -41,7 +51,7 @@ pub fn cut_ending(mut env: Env, found: Searched<Option<usize>>) -> Searched<Trie
             outcome: Err(env),
         };
     };
-    env.endings += 1;
+    note(&mut env, step, row);
     env.ket = env.limit;
     env.bra = place;
     env.limit = place;
@@ -50,15 +60,4 @@ pub fn cut_ending(mut env: Env, found: Searched<Option<usize>>) -> Searched<Trie
         row,
         outcome: Ok(env),
     }
-}
-
-// A step that cuts, with this table and these guards.
-#[inline(always)]
-pub fn suffix_step(env: Env, table: &Among<'_, Backward>, guards: &[u8]) -> Searched<Tried>
-    requires { Ready env }
-    ensures { (s : SuffixStep) → IsRule (suffix s) table.now.rows.now table.now.lens.now table.now.classes.now guards.now
-        → (ps : List ℕ) (v : Cutting) → Ends ps env v → Gives ps result.outcome (cut s v) × (result.row ≡ step_row (of_ending s) v.text) }
-{
-    let found = ending(env.text(), table, guards);
-    cut_ending(env, found)
 }

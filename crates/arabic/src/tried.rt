@@ -18,7 +18,7 @@ pub struct Searched<T> {
     pub outcome: T,
 }
 
-// An environment, and how many endings were cut on the way to it. What the environment itself counts has no meaning any more.
+// An environment, which has noted the endings cut on the way to it, and their number.
 #[derive(Drop)]
 pub struct Counted {
     pub endings: u32,

@@ -37,6 +37,7 @@ fn after_Step1(env: Env) -> Env
 }
 
 // Behind a cut by Step1: Step1 as often as it cuts, and what follows it.
+#[inline(never)]
 fn behind_Step1(env: Env) -> Env
     requires { Ready env }
     ensures { (ps : List ℕ) (v : Cutting) → Ends ps env v → (n : ℕ) → length v.text ≤ n → (w : Cutting) × ((and_then (again n (cut verb_step1) v) after_step1 ≡ done w) × Ends ps result w) }

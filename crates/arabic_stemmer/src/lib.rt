@@ -9,6 +9,7 @@ ghost use Rattle.definition.specs.Floating.{without_marks};
 ghost use Rattle.places.specs.Places.{places};
 ghost use Rattle.stemmer.specs.Entries.{most_bytes, enough_room, letters, bytes_of, fitting, answer, out_after, kind_answer, Demand3After, FewEndingsOf, version, stem_entry};
 ghost use Rattle.stemmer.specs.Numbers.{places_answer, places_entry, numbers_after, PlacedAfter};
+ghost use Rattle.story.specs.Entry.{story_room, story_bytes, story_answer, ReadBack};
 ghost use Rattle.arabic_stemmer.specs.Interface.{told, told_stem, told_places, told_kind};
 
 use arabic::kind::Kind;
@@ -140,6 +141,17 @@ pub extern "C" fn arabic_stemmer_stem_places(
     ensures room_bound { result.code ≡ 3 → (length out.old < enough_room) ⊎ (length numbers.old < most_bytes) }
 {
     stemmer::stem_places(word, out, numbers).into()
+}
+
+// The story of the stem: a line for each change of the word's letters.
+#[unsafe(no_mangle)]
+pub extern "C" fn arabic_stemmer_story(word: &[u8], out: &mut [u8]) -> Answer
+    ensures value { result ≡ told (story_answer word.now (length out.old)) }
+    ensures out_after { out.new ≡ out_after (story_answer word.now (length out.old)) (story_bytes word.now) out.old }
+    ensures read_back { ReadBack word.now (story_answer word.now (length out.old)) out.new }
+    ensures room_bound { result.code ≡ 3 → length out.old < story_room }
+{
+    story::story(word, out).into()
 }
 
 // The word normalised without its floating marks.

@@ -222,6 +222,10 @@ fn finish(output: &mut impl Write, name: &str, word: &[u8], lent: Lent) -> io::R
     counted_line(output, name, word, lent, stemmer::finish)
 }
 
+fn story(output: &mut impl Write, name: &str, word: &[u8], lent: Lent) -> io::Result<()> {
+    counted_line(output, name, word, lent, story::story)
+}
+
 // The part that is handed back, in place of code and count, and then the output.
 fn stem_part(output: &mut impl Write, name: &str, word: &[u8], lent: Lent) -> io::Result<()> {
     line(
@@ -692,6 +696,129 @@ fn no_places(output: &mut impl Write) -> io::Result<()> {
     )
 }
 
+// Stories of no line, one line and two, and outputs that they just fit, or do not.
+fn room_for_stories(output: &mut impl Write, book: &[u8]) -> io::Result<()> {
+    let dwelling = b"\xD8\xA7\xD9\x84\xD9\x85\xD8\xB3\xD9\x83\xD9\x86";
+    story(
+        output,
+        "story of 31 bytes, room for 31: ",
+        book,
+        Lent::new(31),
+    )?;
+    story(
+        output,
+        "story of 31 bytes, room for 30: ",
+        book,
+        Lent::new(30),
+    )?;
+    story(
+        output,
+        "story of 31 bytes, room for 40: ",
+        book,
+        Lent::new(40),
+    )?;
+    story(output, "story of 31 bytes, no room: ", book, Lent::new(0))?;
+    story(
+        output,
+        "story of 57 bytes, room for 57: ",
+        dwelling,
+        Lent::new(57),
+    )?;
+    story(
+        output,
+        "story of 57 bytes, room for 56: ",
+        dwelling,
+        Lent::new(56),
+    )?;
+    story(output, "story, empty word, no room: ", b"", Lent::new(0))?;
+    story(output, "story, empty word, room for 4: ", b"", Lent::new(4))
+}
+
+// A letter that is finished, one that is deleted, one that is taken out, and one that nothing changes.
+fn stories_of_a_letter(output: &mut impl Write) -> io::Result<()> {
+    story(
+        output,
+        "story, 0623, room for 27: ",
+        b"\xD8\xA3",
+        Lent::new(27),
+    )?;
+    story(
+        output,
+        "story, 0623, room for 26: ",
+        b"\xD8\xA3",
+        Lent::new(26),
+    )?;
+    story(output, "story, !, room for 21: ", b"!", Lent::new(21))?;
+    story(output, "story, !, room for 20: ", b"!", Lent::new(20))?;
+    story(
+        output,
+        "story, FE7F, room for 21: ",
+        b"\xEF\xB9\xBF",
+        Lent::new(21),
+    )?;
+    story(
+        output,
+        "story, FE7F, room for 20: ",
+        b"\xEF\xB9\xBF",
+        Lent::new(20),
+    )?;
+    story(output, "story, 0628, no room: ", b"\xD8\xA8", Lent::new(0))
+}
+
+// Words of 255 bytes, and bad words.
+fn stories_of_long_words(output: &mut impl Write) -> io::Result<()> {
+    let latin = [b'a'; LONGEST + 1];
+    let mut ended = [b'a'; LONGEST];
+    ended[LONGEST - 1] = b'!';
+    story(
+        output,
+        "story, 255 bytes of a, no room: ",
+        &latin[..LONGEST],
+        Lent::new(0),
+    )?;
+    story(
+        output,
+        "story, 254 bytes of a and !, room for 23: ",
+        &ended,
+        Lent::new(23),
+    )?;
+    story(
+        output,
+        "story, 254 bytes of a and !, room for 22: ",
+        &ended,
+        Lent::new(22),
+    )?;
+    story(output, "story, 256 bytes of a: ", &latin, Lent::new(8))?;
+    story(
+        output,
+        "story, 256 bytes of a, no room: ",
+        &latin,
+        Lent::new(0),
+    )?;
+    story(
+        output,
+        "story, 256 bytes of FF: ",
+        &[0xFF; LONGEST + 1],
+        Lent::new(8),
+    )?;
+    story(output, "story, C0 80: ", b"\xC0\x80", Lent::new(8))?;
+    story(
+        output,
+        "story, ED A0 80, no room: ",
+        b"\xED\xA0\x80",
+        Lent::new(0),
+    )
+}
+
+// The story of 255 times !, code and count alone. No longer one is known.
+fn longest_story(output: &mut impl Write, name: &str, out: &mut [u8]) -> io::Result<()> {
+    writeln!(
+        output,
+        "{name}{}",
+        Counted(story::story(&[b'!'; LONGEST], out))
+    )
+}
+
 fn main(rt: HostRuntime) -> io::Result<()> {
     let book = b"\xD8\xA7\xD9\x84\xD9\x83\xD8\xAA\xD8\xA7\xD8\xA8";
     let mut output = rt.stdout();
@@ -715,5 +842,18 @@ fn main(rt: HostRuntime) -> io::Result<()> {
     room_for_places(&mut output, book)?;
     kept_places(&mut output)?;
     many_places(&mut output)?;
-    no_places(&mut output)
+    no_places(&mut output)?;
+    room_for_stories(&mut output, book)?;
+    stories_of_a_letter(&mut output)?;
+    stories_of_long_words(&mut output)?;
+    longest_story(
+        &mut output,
+        "story, 255 times !, room for 5755: ",
+        &mut [0; 5755],
+    )?;
+    longest_story(
+        &mut output,
+        "story, 255 times !, room for 5754: ",
+        &mut [0; 5754],
+    )
 }

@@ -11,7 +11,7 @@ use utf8::letters::{put_letter, read_letter};
 
 // Whether the letter is a floating mark: FE70 to FE7F but for FE73 and FE75.
 #[tactic(auto, using(crate::proofs::Bytes::marked, crate::proofs::Bytes::not_marked))]
-fn is_mark(code: u32) -> bool
+pub fn is_mark(code: u32) -> bool
     ensures { result ≡ floating code }
 {
     matches!(code, 0xFE70..=0xFE72 | 0xFE74 | 0xFE76..=0xFE7F)

@@ -1,26 +1,26 @@
--- The line that answers a word, by the word's answer; an overlong word is answered by its first 256 bytes. Assumes nothing.
+-- The line that answers a word, by the answer of the stem entry; an overlong word is answered by its first 256 bytes. Assumes nothing.
 use mathlib.Core.Path.{◌≡◌, refl, sym, ap, ◌∙◌}
 use mathlib.Core.Bool.{Bool, true, false}
 use mathlib.Core.List.{List, [], ◌∷◌, ◌++◌}
-use Prim.Native.Nat.{ℕ, ◌<◌, ◌≤◌}
+use Prim.Native.Nat.{ℕ, ◌<◌}
 use native.Mathlib.Omega.{arith}
-use lib.Dec.{eqb, ltb}
-use lib.ListN.{length, take, length-append, length-take}
+use lib.Dec.{ltb}
+use lib.ListN.{length, take}
 use lib.Seq.{take_all, length-take-le}
 use borrow.Author.Tests.{ne_eqb}
 use Rattle.definition.specs.Words.{pick}
-use Rattle.definition.specs.Stem.{stem}
-use Rattle.definition.specs.Floating.{without_marks}
 use Rattle.definition.proofs.Match.{by_le}
 use Rattle.std.specs.Prelude.{Result, Ok, Err}
 use Rattle.stemmer.specs.declared.outcome.BadWord.{BadWord}
 use Rattle.stemmer.specs.declared.outcome.BadWord.TheVariants.{TooLong, NotWellFormed}
 use Rattle.stemmer.specs.declared.outcome.Refusal.{Refusal}
-use Rattle.stemmer.specs.declared.outcome.Refusal.TheVariants.{Bad, NoRoom}
-use Rattle.stemmer.specs.Entries.{Answer, most_bytes, code_of, refusal_code, checked, after_checks, fitting, answer, stem_bytes, stem_answer}
-use Rattle.stemmer.proofs.Answers.{done_count, done-fits, over_long, refused_code}
-use Rattle.lines.specs.Plain.{line_feed, refusal, text_after, answer_line}
-use Rattle.lines.specs.Machine.{kept_bytes, stem_room, line_room}
+use Rattle.stemmer.specs.declared.outcome.Refusal.TheVariants.{NoRoom}
+use Rattle.stemmer.specs.Entries.{most_bytes, code_of, refusal_code, checked, after_checks, fitting, answer, stem_bytes, stem_answer}
+use Rattle.stemmer.proofs.Answers.{too_long, refused_code}
+use Rattle.lines.specs.Plain.{line_feed}
+use Rattle.lines.specs.Machine.{kept_bytes, ByKept}
+use Rattle.lines.specs.Refusals.{refusal, text_after}
+use Rattle.lines.specs.Stems.{answer_line, stem_room}
 use Rattle.lines.specs.Facts.{shown}
 use Rattle.lines.proofs.Room.{never_three}
 
@@ -48,25 +48,22 @@ pub line_refused : (w : List ℕ) (r : Refusal) → stem_answer w stem_room ≡ 
 unfolding shown
 line_refused w r e = line_answer w ∙ rw e (simp (ne_eqb (refusal_code r) 0 (refused_code r)))
 
-pub line_most : (w : List ℕ) → length (answer_line w) ≤ line_room
-line_most w = of (stem_answer w stem_room) refl
-  where
-    of : (a : Answer) → stem_answer w stem_room ≡ a → length (answer_line w) ≤ line_room
-    of (Ok n) e = rw (line_done w n e, length-append) (omega (arith, done-fits w stem_room n e, done_count w stem_room n e))
-    of (Err r) e = rw (line_refused w r e) (omega arith)
+-- ---- any text behind the checks, and what ends it
+module _ (text : List ℕ → List ℕ) (end : List ℕ) where
+  -- an overlong line is answered by `?1`
+  pub overlong : (w : List ℕ) → most_bytes < length w → text_after (checked w) (text w) ++ end ≡ refusal 1 ++ end
+  overlong w h = rw (too_long w h) refl
 
--- an overlong line is answered by `?1`
+  -- so the bytes that are kept of a line have its answer
+  pub kept_enough : ByKept (λ w. text_after (checked w) (text w) ++ end)
+  kept_enough w = by_le (length w) kept_bytes
+      (λ h. ap (λ (l : List ℕ). text_after (checked l) (text l) ++ end) (take_all kept_bytes w h))
+      (λ h. overlong (take kept_bytes w) (omega (arith, length-take-le kept_bytes w (omega arith))) ∙ sym (overlong w (omega arith)))
+
 pub line_long : (w : List ℕ) → most_bytes < length w → answer_line w ≡ refusal 1 ++ line_feed ∷ []
-line_long w h = line_refused w (Bad TooLong) (over_long (without_marks stem) w stem_room h)
+unfolding answer_line
+line_long = overlong stem_bytes (line_feed ∷ [])
 
--- so the bytes that are kept of a line have its answer
-pub line_kept : (w : List ℕ) → answer_line (take kept_bytes w) ≡ answer_line w
-line_kept w = by_le (length w) kept_bytes
-    (λ h. ap answer_line (take_all kept_bytes w h))
-    (λ h. line_long (take kept_bytes w) (omega (arith, length-take-le kept_bytes w (omega arith))) ∙ sym (line_long w (omega arith)))
-
-pub empty_kept : (w : List ℕ) → eqb (length (take kept_bytes w)) 0 ≡ eqb (length w) 0
-empty_kept [] = refl
-empty_kept (x ∷ xs) =
-    ne_eqb (length (take kept_bytes (x ∷ xs))) 0 (λ e. omega (arith, length-take kept_bytes (x ∷ xs)))
-    ∙ sym (ne_eqb (length (x ∷ xs)) 0 (λ e. omega arith))
+pub line_kept : ByKept answer_line
+unfolding answer_line
+line_kept = kept_enough stem_bytes (line_feed ∷ [])

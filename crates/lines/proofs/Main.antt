@@ -1,38 +1,48 @@
--- What is shown of the line machine beside the functions' contracts, each closed by the file that proves it. Assumes nothing.
+-- What is shown of the line machine beside the functions' contracts, each closed by the file that proves it: for any answers, and for the line program of stems. Assumes nothing.
 use mathlib.Core.Path.{◌≡◌, refl}
 use mathlib.Core.List.{List, [], ◌∷◌, ◌++◌, map, flatten}
 use Prim.Native.Nat.{ℕ, ◌≤◌, ◌<◌}
 use lib.ListN.{length}
-use Rattle.lines.specs.Plain.{line_feed, question_mark, refusal, skip_mark, lines_of, answer_line, output}
-use Rattle.lines.specs.Machine.{Reading, stem_room, line_room, start, after, written, last_line, Feeds}
+use Rattle.lines.specs.Plain.{line_feed, skip_mark, lines_of, output}
+use Rattle.lines.specs.Machine.{ByKept, Reading, start, after, written, last_line, Feeds}
 use Rattle.lines.specs.Calls.{Calls}
+use Rattle.lines.specs.Refusals.{question_mark, refusal}
+use Rattle.lines.specs.Stems.{answer_line, stem_room, line_room}
 use Rattle.lines.specs.Facts.{Without, shown}
 use Rattle.lines.specs.Examples.{examples}
 use Rattle.stemmer.specs.Entries.{most_bytes, code_of, stem_bytes, stem_answer}
 use Rattle.lines.proofs.Questions.{no_question}
 use Rattle.lines.proofs.Room.{never_three}
-use Rattle.lines.proofs.Answering.{line_answer, line_long}
+use Rattle.lines.proofs.Answering.{line_answer, line_long, line_kept}
 use Rattle.lines.proofs.Examples.{examples_right}
 use Rattle.lines.proofs.Splitting.{no_lf, line_first, line_last}
 use Rattle.lines.proofs.Calling.{calls_output, calls_are, feeds_some}
 use Rattle.lines.proofs.Whole.{whole}
 
--- what calls of `feed` and `finish` write for an input in pieces, whatever the pieces and the outputs that they are lent, is what the plain
--- definition says of the pieces joined; `Reader::start` gives such a reader
-pub main_calls : {s : Reading} {pieces : List (List ℕ)} {w : List ℕ} → s ≡ start → Calls s pieces w → w ≡ output (flatten pieces)
-main_calls = calls_output
+module _ {answer : List ℕ → List ℕ} {room : ℕ} where
+  -- what calls of `feed` and `finish` write for an input in pieces, whatever the pieces and the outputs that they are lent, is what the plain
+  -- definition says of the pieces joined; `Reader::start` gives such a reader
+  pub main_calls : ByKept answer → {s : Reading} {pieces : List (List ℕ)} {w : List ℕ} → s ≡ start → Calls answer room s pieces w → w ≡ output answer (flatten pieces)
+  main_calls = calls_output answer room
 
--- there are such calls for every list of pieces
-pub main_some : (s : Reading) (pieces : List (List ℕ)) → (w : List ℕ) × Calls s pieces w
-main_some = calls_are
+  -- there are such calls for every list of pieces
+  pub main_some : (s : Reading) (pieces : List (List ℕ)) → (w : List ℕ) × Calls answer room s pieces w
+  main_some = calls_are answer room
 
--- and a call with room for any line takes at least a byte, so that each piece is taken whole by as many calls
-pub main_taken : {i : List ℕ} {s s' : Reading} {o o' : List ℕ} {used count : ℕ} → Feeds i s s' o o' used count → line_room ≤ length o → 1 ≤ length i → 1 ≤ used
-main_taken = feeds_some
+  -- and a call with room for any answer takes at least a byte, so that each piece is taken whole by as many calls
+  pub main_taken : {i : List ℕ} {s s' : Reading} {o o' : List ℕ} {used count : ℕ} → Feeds answer room i s s' o o' used count → room ≤ length o → 1 ≤ length i → 1 ≤ used
+  main_taken = feeds_some answer room
 
 -- what the machine writes for an input, its end included, is what the plain definition says
-pub main_whole : (i : List ℕ) → written start i ++ last_line (after start i) ≡ output i
-main_whole = whole
+pub main_whole : {answer : List ℕ → List ℕ} → ByKept answer → (i : List ℕ) → written answer start i ++ last_line answer (after start i) ≡ output answer i
+main_whole {answer} kept = whole answer kept
+
+-- so it is with the line program of stems
+pub main_stems : {s : Reading} {pieces : List (List ℕ)} {w : List ℕ} → s ≡ start → Calls answer_line line_room s pieces w → w ≡ output answer_line (flatten pieces)
+main_stems = main_calls line_kept
+
+pub main_stems_whole : (i : List ℕ) → written answer_line start i ++ last_line answer_line (after start i) ≡ output answer_line i
+main_stems_whole = main_whole line_kept
 
 -- no line meets code 3: lent 340 bytes, the stem entry never answers it
 pub main_three : (w : List ℕ) → code_of (stem_answer w stem_room) ≡ 3 → ⊥

@@ -15,7 +15,7 @@ use Rattle.definition.proofs.Main.{main_unmarked_demand3}
 use Rattle.definition.proofs.Match.{by}
 use Rattle.utf8.specs.Utf8.{encode1, encode}
 use Rattle.stemmer.specs.Entries.{letters, bytes_of, stem_bytes}
-use Rattle.lines.specs.Plain.{question_mark}
+use Rattle.lines.specs.Refusals.{question_mark}
 use Rattle.lines.specs.Facts.{Without}
 
 free_append : (a b : List ℕ) → Without question_mark a → Without question_mark b → Without question_mark (a ++ b)

@@ -27,7 +27,7 @@ use Rattle.stemmer.specs.declared.outcome.BadWord.TheVariants.{TooLong, NotWellF
 use Rattle.stemmer.specs.declared.outcome.Refusal.TheVariants.{NoRoom}
 use Rattle.stemmer.specs.Entries.{code_of, checked, after_checks, letters, bytes_of, fitting, answer, stem_bytes, stem_answer}
 use Rattle.stemmer.proofs.Answers.{short, spelling}
-use Rattle.lines.specs.Machine.{stem_room}
+use Rattle.lines.specs.Stems.{stem_room}
 
 none_size : length (encode []) ≡ 0
 unfolding encode

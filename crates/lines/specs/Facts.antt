@@ -2,7 +2,7 @@
 use Rattle.std.specs.Prelude.{◌≡◌, List, [], ◌∷◌, ℕ, eqb}
 use Rattle.definition.specs.Words.{pick}
 use Rattle.stemmer.specs.Entries.{Answer, code_of}
-use Rattle.lines.specs.Plain.{refusal}
+use Rattle.lines.specs.Refusals.{refusal}
 
 -- no byte of the list is b
 abbrev pub Without : ℕ → List ℕ → Type 0

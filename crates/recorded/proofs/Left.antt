@@ -1,5 +1,5 @@
 -- What a front leaves is ready for the next one, also where letters are passed: those in front of the cursor are taken as the head letter of
--- another front, with the same text and the same places. Assumes nothing.
+-- another front, with the same text, the same places and the same changes. Assumes nothing.
 use mathlib.Core.Path.{◌≡◌, refl, sym, ap, ◌∙◌, subst}
 use mathlib.Core.List.{List, [], ◌∷◌, ◌++◌, append-nil, append_assoc}
 use Prim.Native.Nat.{ℕ, zero, suc, ◌*◌}
@@ -17,7 +17,7 @@ use Rattle.snowball.specs.declared.env.Env.{Env}
 use Rattle.snowball.specs.Chars.{Chars}
 use Rattle.snowball.specs.Stands.{Stands}
 use Rattle.arabic.specs.Tried.{Answers}
-use Rattle.arabic.specs.Fronts.{cursor_of, front_places, at_front, ReadyFront, Passed, Fronts, GivesFront, GivesThird, GivesText}
+use Rattle.arabic.specs.Fronts.{cursor_of, front_places, at_front, AtFront, ReadyFront, Passed, Fronts, GivesFront, GivesThird, GivesText}
 
 -- ---- a front of twice as many letters, of whose first two the first keeps its place
 seen : ℕ → Word
@@ -36,7 +36,7 @@ seen-head (suc j) p = refl
 
 module _ (ps : List ℕ) (f : Fronting) where
   abbrev left : Fronting
-  left = record { front = seen (cursor_of f); head_letter = f.head_letter ++ f.passed; passed = []; rest = f.rest; applied = [] }
+  left = record { front = seen (cursor_of f); head_letter = f.head_letter ++ f.passed; passed = []; rest = f.rest; applied = f.applied }
 
   abbrev kept : List ℕ
   kept = take (cursor_of f) (front_places ps f)
@@ -44,13 +44,13 @@ module _ (ps : List ℕ) (f : Fronting) where
   abbrev spread : List ℕ
   spread = kept ++ (replicate (cursor_of f) 0 ++ drop (cursor_of f) (front_places ps f))
 
-  module _ (e : Env) (st : Stands e (at_front ps f)) where
+  module _ (e : Env) (st : AtFront ps e f) where
     kept-length : length kept ≡ cursor_of f
     kept-length =
         length-take-le (cursor_of f) (front_places ps f)
         (omega (
           arith,
-          sym (ap length st.placed) ∙ at_letters-length (text f) e.places,
+          sym (ap length st.stands.placed) ∙ at_letters-length (text f) e.places,
           length-append f.head_letter f.passed,
           length-append f.head_letter (f.passed ++ f.rest),
           length-append f.passed f.rest,
@@ -79,7 +79,7 @@ module _ (ps : List ℕ) (f : Fronting) where
       (
         spread,
         record {
-          stands = subst (λ (s : Chars). Stands e s) same_chars st;
+          state = record { stands = subst (λ (s : Chars). Stands e s) same_chars st.stands; noted = st.noted; room = st.room };
           placed = record {
             head = ap length (seen-head (cursor_of f) spread) ∙ ap length (take_at kept (replicate (cursor_of f) 0 ++ drop (cursor_of f) (front_places ps f)) (cursor_of f) kept-length) ∙ kept-length;
             two = omega (arith, seen-length (cursor_of f));
@@ -90,22 +90,22 @@ module _ (ps : List ℕ) (f : Fronting) where
     )
 
 -- ---- whatever a step gives, it gives the text
-answers_text : (ps : List ℕ) (S F : Env → Fronting → Type 0) → ((e : Env) (f : Fronting) → S e f → Stands e (at_front ps f)) → ((e : Env) (f : Fronting) → F e f → Stands e (at_front ps f))
+answers_text : (ps : List ℕ) (S F : Env → Fronting → Type 0) → ((e : Env) (f : Fronting) → S e f → AtFront ps e f) → ((e : Env) (f : Fronting) → F e f → AtFront ps e f)
     → (t : Result Env Env) (y : Try Fronting) → Answers S F t y → GivesText ps t y
 answers_text ps S F a b (Ok e) (done f) h = a e f h
 answers_text ps S F a b (Ok e) (failed f) h = h
 answers_text ps S F a b (Err e) (done f) h = h
 answers_text ps S F a b (Err e) (failed f) h = b e f h
 
--- a step's outcome is some text with places, which is all that the next one's environment is made of
+-- a step's outcome is some text with places and changes, which is all that the next one's environment is made of
 abbrev pub Left : Result Env Env → Type 0
 Left t = (ps : List ℕ) × ((y : Try Fronting) × GivesText ps t y)
 
 pub front_left : (ps : List ℕ) (t : Result Env Env) (y : Try Fronting) → GivesFront ps t y → Left t
-front_left ps t y g = (ps, (y, answers_text ps (Fronts ps) (Fronts ps) (λ e f h. h.stands) (λ e f h. h.stands) t y g))
+front_left ps t y g = (ps, (y, answers_text ps (Fronts ps) (Fronts ps) (λ e f h. h.state) (λ e f h. h.state) t y g))
 
 third_left : (ps : List ℕ) (t : Result Env Env) (y : Try Fronting) → GivesThird ps t y → Left t
-third_left ps t y g = (ps, (y, answers_text ps (Passed ps) (Fronts ps) (λ e f h. h.stands) (λ e f h. h.stands) t y g))
+third_left ps t y g = (ps, (y, answers_text ps (Passed ps) (Fronts ps) (λ e f h. h.state) (λ e f h. h.state) t y g))
 
 -- of a step that promises this of every front that an environment stands for, on one that is ready
 module _ (s : PrefixStep) (e : Env) (r : ReadyFront e) (t : Result Env Env) (R : Fronting → Type 0) where

@@ -47,9 +47,9 @@ impl<'a> Word<'a> {
         Ok(Word { bytes })
     }
 
-    // The word in a new environment, with the cursor in front.
+    // The word in a new environment, with the cursor in front and no change made.
     fn at_front(&self) -> Env
-        ensures { (w : Letters) × ((ps : List ℕ) × Stands result (started w ps)) }
+        ensures { (w : Letters) × ((ps : List ℕ) × (Stands result (started w ps) × (result.made ≡ 0))) }
     {
         Env::create(self.bytes)
     }
@@ -61,7 +61,6 @@ impl<'a> Word<'a> {
         let mut env = self.at_front();
         env.limit_backward = env.cursor;
         env.cursor = env.limit;
-        env.endings = 0;
         env
     }
 

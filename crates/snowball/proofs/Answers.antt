@@ -18,6 +18,7 @@ use Rattle.definition.proofs.Found.{longest_match}
 use Rattle.definition.proofs.Unique.{longest_at, longest_none}
 use Rattle.utf8.specs.Utf8.{Scalars, encode}
 use Rattle.utf8.specs.Places.{size}
+use Rattle.utf8.specs.Spelt.{Encodes}
 use Rattle.snowball.specs.Rows.{keys_by, begins, matches, well_formed, rows_of, byte_table, low, plain, AllScalars}
 use Rattle.snowball.specs.Search.{Finds, Ahead, Behind, AheadBytes, BehindBytes, LongestRow, Halved, Walked}
 use Rattle.snowball.specs.declared.among.Found.{Found as Answer}
@@ -75,6 +76,22 @@ low-scalars (c ∷ w) e = (inl (let h = leb-true c 0xD7FF (both_0 (leb c 0xD7FF)
 plain-scalars : (t : Table) → plain t ≡ true → AllScalars t
 plain-scalars [] e = tt
 plain-scalars (k ∷ t) e = (low-scalars k.letters (both_0 (low k.letters) (plain t) e), plain-scalars t (both_1 (low k.letters) (plain t) e))
+
+-- ---- the bytes of a row, where the rows are the table t
+low_at : (t : Table) → plain t ≡ true → (k : ℕ) → k < length t → low (row_at t k).letters ≡ true
+low_at [] p k h = absurd (omega arith)
+low_at (r ∷ t) p zero h = both_0 (low r.letters) (plain t) p
+low_at (r ∷ t) p (suc k) h = low_at t (both_1 (low r.letters) (plain t) p) k (omega arith)
+
+byte_rows : (t : Table) → length (byte_table t) ≡ length t
+byte_rows [] = refl
+byte_rows (r ∷ t) = ap suc (byte_rows t)
+
+pub row_spelt : (ws : List (List ℕ)) (cs ns : List ℕ) (k : ℕ) → length cs ≡ length ws → k < length ws → (t : Table) → rows_of ws ns cs ≡ byte_table t → plain t ≡ true
+    → (bytes : List ℕ) → bytes ≡ take (get_or ns k 0) (get_or ws k []) → Encodes bytes (row_at t k).letters
+row_spelt ws cs ns k e h t q p bytes b =
+    let l : k < length t = omega (arith, rows_length ws cs ns e, ap length q, byte_rows t) in
+    (low-scalars (row_at t k).letters (low_at t p k l), b ∙ sym (row-letters ws cs ns k e h) ∙ ap (λ (x : Table). (row_at x k).letters) q ∙ byte_row_lem t k)
 
 -- ---- a search that reads in one order, over a table that passes the test
 module _ (read : List ℕ → List ℕ) (all : (s : List ℕ) → length (read s) ≡ length s) (ws : List (List ℕ)) (ns : List ℕ) (js : List (Option ℕ)) (g : T (well_formed (keys_by read ws ns) ns js))

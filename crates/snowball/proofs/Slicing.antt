@@ -188,7 +188,7 @@ module _ (e : Env) (cursor : ℕ) (o : e.bra ≤ e.ket) (z : e.ket ≡ e.limit) 
     (m : cursor ≡ moved e.cursor e.bra e.limit 0) where
   abbrev shortened : Env
   shortened =
-      record { cursor = cursor; limit = e.bra; limit_backward = e.limit_backward; bra = e.bra; ket = e.ket; endings = e.endings; current = e.current; places = e.places }
+      record { cursor = cursor; limit = e.bra; limit_backward = e.limit_backward; bra = e.bra; ket = e.ket; made = e.made; current = e.current; places = e.places; changes = e.changes }
 
   pub cut_tail : Sliced e [] shortened
   unfolding encode
@@ -203,7 +203,6 @@ module _ (e : Env) (cursor : ℕ) (o : e.bra ≤ e.ket) (z : e.ket ≡ e.limit) 
         limit = omega arith;
         cursor = m ∙ ap (λ (k : ℕ). moved e.cursor e.bra k 0) (sym z);
         limit_backward = refl;
-        bra = refl;
-        ket = refl;
+        same = record { bra = refl; ket = refl; made = refl; changes = refl };
       })
       (omega arith) tt refl

@@ -10,6 +10,10 @@ use Rattle.snowball.specs.declared.env.Env.{Env}
 abbrev pub work_size : ℕ
 work_size = 340
 
+-- the most changes that are noted
+abbrev pub most_changes : ℕ
+most_changes = 170
+
 -- the bytes of the longest word that is stemmed
 abbrev pub longest_word : ℕ
 longest_word = 255
@@ -38,10 +42,12 @@ abbrev pub handed_back : Result Env Env → Env
 handed_back (Ok e) = e
 handed_back (Err e) = e
 
--- bra and ket are the same in e and r
+-- bra and ket are the same in e and r, and so are the changes that are noted
 pub record SameMarks (e r : Env) : Type 0 where
   pub bra : r.bra ≡ e.bra
   pub ket : r.ket ≡ e.ket
+  pub made : r.made ≡ e.made
+  pub changes : r.changes ≡ e.changes
 
 -- Of every text that e stands for: where bra and ket lie at its places b and k, b is not before back, and cs is as wide as the last of the letters
 -- from b to k, r stands for the text with these letters replaced by cs.

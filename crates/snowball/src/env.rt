@@ -11,10 +11,14 @@ ghost use Rattle.snowball.specs.Bytes.{Created, Replaced};
 // The bytes of the work array: a word of 255 bytes has at most so many when it is normalised.
 pub const WORK_SIZE: usize = 340;
 
+// The most changes that are noted: each takes at least one letter of two bytes from the work array.
+pub const MOST_CHANGES: usize = 170;
+
 // The Rust's SnowballEnv: a text, and places in it. The text is the first limit bytes of current: in the Rust limit is
-// always the length of current where Arabic is stemmed. Two fields are not in the Rust. The number of endings that were cut: a
-// step that cuts adds to it; of the functions here, only those that leave the environment as it is promise it. And places: beside
-// the first byte of each letter of the text stands the byte of the typed word where the letter begins that it came from.
+// always the length of current where Arabic is stemmed. Three fields are not in the Rust. The changes that steps have made, a
+// number for each in the order made, and made, how many of them are in use: a step that changes the text notes it; the functions
+// here keep both as they are. And places: beside the first byte of each letter of the text stands the byte of the typed word where
+// the letter begins that it came from.
 #[derive(Drop)]
 pub struct Env {
     pub cursor: usize,
@@ -22,9 +26,10 @@ pub struct Env {
     pub limit_backward: usize,
     pub bra: usize,
     pub ket: usize,
-    pub endings: u32,
+    pub made: u32,
     pub current: [u8; WORK_SIZE],
     pub places: [u8; WORK_SIZE],
+    pub changes: [u8; MOST_CHANGES],
 }
 
 // The Rust's is_char_boundary, asked of a byte: whether a letter starts with it.
@@ -69,7 +74,7 @@ fn next_start(text: &[u8], cursor: usize) -> usize
 }
 
 // The loop of the Rust's previous_char: the last place in front of the cursor where a letter starts.
-fn last_start(text: &[u8], cursor: usize) -> usize
+pub fn last_start(text: &[u8], cursor: usize) -> usize
     requires { (cursor ≤ length text.now) × (0 < cursor) × (starts (get_or text.now 0 0) ≡ true) }
     ensures { LastStart text.now cursor result }
 {
@@ -98,7 +103,8 @@ fn own_places() -> [u8; WORK_SIZE]
 }
 
 impl Env {
-    // The Rust's create: the word's bytes, with the cursor in front and the whole word from bra to ket. Each byte's place is its own.
+    // The Rust's create: the word's bytes, with the cursor in front and the whole word from bra to ket. Each byte's place is its own,
+    // and nothing is changed yet.
     pub fn create(word: &[u8]) -> Env
         requires { length word.now ≤ longest_word }
         ensures { Created word.now result × ((cs : List ℕ) → Scalars cs → word.now ≡ encode cs → Stands result (fresh cs)) }
@@ -112,9 +118,10 @@ impl Env {
             limit_backward: 0,
             bra: 0,
             ket: len,
-            endings: 0,
+            made: 0,
             current,
             places: own_places(),
+            changes: [0; MOST_CHANGES],
         }
     }
 

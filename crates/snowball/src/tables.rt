@@ -1,7 +1,10 @@
 // The tables of the searches, and the two directions in which a search reads.
-ghost use Rattle.std.specs.Prelude.{◌≡◌, List, [], reverse, ℕ, ◌<◌, length, take, get_or, T, refl};
+ghost use Rattle.std.specs.Prelude.{◌≡◌, List, [], reverse, ℕ, ◌<◌, length, take, get_or, T, refl, true};
 ghost use Rattle.std.proofs.lemmas.List.{length-reverse};
-ghost use Rattle.snowball.specs.Rows.{keys_by, well_formed};
+ghost use Rattle.definition.specs.Tables.{Table};
+ghost use Rattle.definition.specs.Search.{row_at};
+ghost use Rattle.utf8.specs.Spelt.{Encodes};
+ghost use Rattle.snowball.specs.Rows.{keys_by, well_formed, rows_of, byte_table, plain};
 
 use std::marker::PhantomData;
 
@@ -59,10 +62,11 @@ pub struct Among<'a, D: Direction> {
 }
 
 impl<'a, D: Direction> Among<'a, D> {
-    // The bytes of row k.
-    pub(crate) fn row(&self, k: usize) -> &'a [u8]
+    // The bytes of row k, which are those of the letters of that row of the definition's table.
+    pub fn row(&self, k: usize) -> &'a [u8]
         requires { k < length self.now.rows.now }
-        ensures { result.now ≡ take (get_or self.now.lens.now k 0) (get_or self.now.rows.now k []) }
+        ensures bytes { result.now ≡ take (get_or self.now.lens.now k 0) (get_or self.now.rows.now k []) }
+        ensures letters { (t : Table) → rows_of self.now.rows.now self.now.lens.now self.now.classes.now ≡ byte_table t → plain t ≡ true → Encodes result.now (row_at t k).letters }
     {
         let row = &self.rows[k];
         &row[..usize::from(self.lens[k])]

@@ -24,7 +24,7 @@ use Rattle.definition.proofs.Match.{both_0, both_1, by}
 use Rattle.floating_marks.proofs.Sizes.{unmarked-scalars, unmarked-size}
 use Rattle.arabic.proofs.Main.{main_grows, main_size}
 use Rattle.arabic.proofs.Gives.{normalise-scalars}
-use Rattle.arabic.proofs.Changes.{finish-scalars}
+use Rattle.arabic.proofs.FinishedLetter.{finish-scalars}
 use Rattle.stemmer.specs.declared.outcome.BadWord.TheVariants.{TooLong}
 use Rattle.stemmer.specs.declared.outcome.Refusal.TheVariants.{Bad, NoRoom}
 use Rattle.stemmer.specs.Entries.{most_bytes, enough_room, code_of, letters, bytes_of, checked, fitting, answer, out_after}

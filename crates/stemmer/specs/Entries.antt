@@ -24,7 +24,7 @@ use Rattle.stemmer.specs.declared.outcome.Refusal.TheVariants.{Bad, NoRoom}
 abbrev pub most_bytes : ℕ
 most_bytes = 255
 
--- an output of so many bytes is long enough for every result
+-- an output of so many bytes is long enough for every result of the entries in stemmer
 abbrev pub enough_room : ℕ
 enough_room = 340
 

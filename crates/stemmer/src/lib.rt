@@ -29,7 +29,7 @@ use utf8::well_formed;
 // The most bytes that a word may have.
 pub const LONGEST: usize = 255;
 
-// An output of so many bytes is long enough for every result.
+// An output of so many bytes is long enough for every result of the entries here.
 pub const ROOM: usize = 340;
 
 // And a buffer of so many numbers for the places of every stem's letters.
@@ -73,7 +73,8 @@ fn typed_env(word: &[u8]) -> Env
 
 // And for the word without its floating marks: every letter that is left keeps its place.
 #[tactic(auto, using(crate::proofs::Answers::short, crate::proofs::Without::spelt))]
-fn unmarked_env(word: &[u8]) -> Env
+#[inline(always)]
+pub fn unmarked_env(word: &[u8]) -> Env
     requires { checked word.now ≡ Ok tt }
     ensures { Stands result (typed_text (marks_out (typed (letters word.now)))) × (result.limit ≤ most_bytes) }
 {
@@ -104,7 +105,7 @@ fn finished_env(word: &[u8]) -> Env
 
 // Delivering: the text to the front of out, if out has room for it. The answer is how many bytes it has.
 #[tactic(auto, unfolding(crate::specs::Entries::fitting, crate::specs::Entries::out_after))]
-fn deliver(text: &[u8], out: &mut [u8]) -> Result<usize, Refusal>
+pub fn deliver(text: &[u8], out: &mut [u8]) -> Result<usize, Refusal>
     ensures value { result ≡ fitting (length text.now) (length out.old) }
     ensures out_after { out.new ≡ out_after result text.now out.old }
 {

@@ -1,11 +1,12 @@
--- `normalize::given` meets its contract: it reads what the classes give. Assumes nothing.
-use Rattle.std.proofs.Common.{rules}
-use Rattle.utf8.specs.Utf8.{encode, encode1}
-use Rattle.definition.specs.Normal.{gives, listed_for}
-use Rattle.arabic.specs.Rows.{all_gives}
-use Rattle.arabic.proofs.Gives.{gives_at}
+-- `normalize::given` meets its contract: a class gives its letters. Assumes nothing.
+use mathlib.Core.Path.{sym, ap, ◌∙◌, subst}
+use Rattle.std.specs.Prelude.{Option, IfSome}
+use Prim.Native.Nat.{ℕ, ◌<◌}
+use Rattle.arabic.specs.Rows.{given_bytes}
+use Rattle.arabic.proofs.Gives.{class_given}
 use Rattle.arabic.proofs.normalize.given.Goals as goal
 
 pub returns-in-Some : goal.returns-in-Some
-unfolding all_gives gives listed_for encode encode1
-returns-in-Some c = let i = c.in-Some.is in let q = c.from.ensures in search (gives_at, rules)
+returns-in-Some c =
+    let a = c.args in
+    c.class_gives.ensures ∙ sym (class_given c.in-Some.class (subst (λ (o : Option ℕ). IfSome o (λ k. k < 56)) c.in-Some.is c.requires)) ∙ ap (λ (o : Option ℕ). given_bytes o a.letter.now) (sym c.in-Some.is)

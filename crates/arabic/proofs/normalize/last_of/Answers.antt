@@ -6,7 +6,7 @@ use Rattle.utf8.specs.Utf8.{encode1, encode}
 use Rattle.utf8.proofs.Text.{encode_one}
 use Rattle.definition.specs.Tables.{A_1}
 use Rattle.arabic.proofs.Guarded.{whole}
-use Rattle.arabic.proofs.Changes.{last_of_class, last_of_none}
+use Rattle.arabic.proofs.FinishedLetter.{last_of_class, last_of_none}
 use Rattle.arabic.proofs.normalize.last_of.Goals as goal
 
 pub returns-in-1-to-3 : goal.returns-in-1-to-3

@@ -6,7 +6,7 @@ use Rattle.utf8.specs.Utf8.{encode1, encode}
 use Rattle.utf8.proofs.Text.{encode_one}
 use Rattle.definition.specs.Tables.{A_2}
 use Rattle.arabic.proofs.Guarded.{whole}
-use Rattle.arabic.proofs.Changes.{other_of_class, other_of_none}
+use Rattle.arabic.proofs.FinishedLetter.{other_of_class, other_of_none}
 use Rattle.arabic.proofs.normalize.other_of.Goals as goal
 
 pub returns-in-1 : goal.returns-in-1

@@ -1,4 +1,4 @@
--- `prefix_steps::r_Prefix_Step3_Verb` meets its contract: its table is A_8, with its guards and what stands for its rows. Assumes nothing.
+-- `prefix_steps::r_Prefix_Step3_Verb` meets its contract: its table is A_8, with its guards, what stands for its rows, and its number. Assumes nothing.
 use mathlib.Core.Path.{refl}
 use Rattle.definition.specs.Tables.{A_8}
 use Rattle.definition.specs.Fronts.{prefix_step3_verb, prefix, replacements, not_at, change}
@@ -8,13 +8,13 @@ use Rattle.arabic.proofs.prefix_steps.r_Prefix_Step3_Verb.Goals as goal
 
 pub prefix_step-requires : goal.prefix_step-requires
 unfolding prefix replacements A_8 encode encode1
-prefix_step-requires c = let p = c.requires in (prefix_step3_verb, (p.0, ((p.1.0, p.1.1.stands), (record { table = refl; letters = refl; guards = refl }, refl))))
+prefix_step-requires c = let p = c.requires in (prefix_step3_verb, (p.0, ((p.1.0, p.1.1.state), (record { table = refl; letters = refl; guards = refl }, refl, refl))))
 
 pub returns : goal.returns
 unfolding prefix replacements not_at change A_8 encode encode1
 returns c =
     λ ps w st.
-    let r = c.prefix_step.ensures prefix_step3_verb ps w st.stands (record { table = refl; letters = refl; guards = refl }) refl
+    let r = c.prefix_step.ensures prefix_step3_verb ps w st.state (record { table = refl; letters = refl; guards = refl }) refl refl
     refl
     (unpassed_changes prefix_step3_verb ps w (λ m. refl) st.placed st.unpassed) in
     (third prefix_step3_verb ps w (λ m. refl) st.placed st.unpassed _ r.0, r.1)

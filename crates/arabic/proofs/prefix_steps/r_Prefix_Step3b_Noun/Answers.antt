@@ -1,4 +1,4 @@
--- `prefix_steps::r_Prefix_Step3b_Noun` meets its contract: its table is A_7, with its guards and what stands for its rows. Assumes nothing.
+-- `prefix_steps::r_Prefix_Step3b_Noun` meets its contract: its table is A_7, with its guards, what stands for its rows, and its number. Assumes nothing.
 use mathlib.Core.Path.{refl, sym, ◌∙◌}
 use mathlib.Core.List.{[], ◌∷◌}
 use Rattle.definition.specs.Letters.{alef, beh}
@@ -15,19 +15,19 @@ unfolding prefix not_at A_7 encode encode1
 returns-then-stands_at c =
     let x = c.args.env in
     λ ps w st.
-    barred x ps w st.stands (Passed ps) (Fronts ps) st prefix_step3b_noun (
-    any_here w.rest (beh ∷ alef ∷ []) ([]) (sym (looks x ps w st.stands _ c.text.ensures _ beh (alef ∷ []) refl refl) ∙ sym c.stands_at.ensures ∙ c.if-stands_at.true))
+    barred x ps w st.state.stands (Passed ps) (Fronts ps) st prefix_step3b_noun (
+    any_here w.rest (beh ∷ alef ∷ []) ([]) (sym (looks x ps w st.state.stands _ c.text.ensures _ beh (alef ∷ []) refl refl) ∙ sym c.stands_at.ensures ∙ c.if-stands_at.true))
 
 pub prefix_step-requires : goal.prefix_step-requires
 unfolding prefix replacements A_7 encode encode1
-prefix_step-requires c = let p = c.requires in (prefix_step3b_noun, (p.0, ((p.1.0, p.1.1.stands), (record { table = refl; letters = refl; guards = refl }, refl))))
+prefix_step-requires c = let p = c.requires in (prefix_step3b_noun, (p.0, ((p.1.0, p.1.1.state), (record { table = refl; letters = refl; guards = refl }, refl, refl))))
 
 pub returns : goal.returns
 unfolding prefix replacements not_at change A_7 encode encode1
 returns c =
     let x = c.args.env in
     λ ps w st.
-    let r = c.prefix_step.ensures prefix_step3b_noun ps w st.stands (record { table = refl; letters = refl; guards = refl }) refl
-    (any_next w.rest (beh ∷ alef ∷ []) ([]) (sym (looks x ps w st.stands _ c.text.ensures _ beh (alef ∷ []) refl refl) ∙ sym c.stands_at.ensures ∙ c.if-stands_at.false))
+    let r = c.prefix_step.ensures prefix_step3b_noun ps w st.state (record { table = refl; letters = refl; guards = refl }) refl refl
+    (any_next w.rest (beh ∷ alef ∷ []) ([]) (sym (looks x ps w st.state.stands _ c.text.ensures _ beh (alef ∷ []) refl refl) ∙ sym c.stands_at.ensures ∙ c.if-stands_at.false))
     (unpassed_changes prefix_step3b_noun ps w (λ m. refl) st.placed st.unpassed) in
     (third prefix_step3b_noun ps w (λ m. refl) st.placed st.unpassed _ r.0, r.1)

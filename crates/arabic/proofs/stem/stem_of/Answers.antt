@@ -20,12 +20,12 @@ use Rattle.arabic.proofs.stem.stem_of.Goals as goal
 pub change_front-changed-requires : goal.change_front-changed-requires
 change_front-changed-requires c =
     let p = c.requires.0 in
-    (_, (_, (c.cut_endings-cut.ensures (normalise (letters_of p.0)) (normal_places p.0) (c.r_Normalize_pre-normalised.ensures p.0 p.1)).0))
+    (_, (_, c.cut_endings.ensures.stands (normalise (letters_of p.0)) (normal_places p.0) (c.r_Normalize_pre-normalised.ensures p.0 p.1)))
 
 pub finish_letters-requires : goal.finish_letters-requires
 finish_letters-requires c =
     let p = c.requires.0 in
-    (_, (_, c.change_front-changed.ensures _ _ (c.cut_endings-cut.ensures (normalise (letters_of p.0)) (normal_places p.0) (c.r_Normalize_pre-normalised.ensures p.0 p.1)).0))
+    (_, (_, c.change_front-changed.ensures.stands _ _ (c.cut_endings.ensures.stands (normalise (letters_of p.0)) (normal_places p.0) (c.r_Normalize_pre-normalised.ensures p.0 p.1))))
 
 pub returns : goal.returns
 unfolding stem_of fronting cutting
@@ -35,9 +35,9 @@ returns c =
     λ ts st.
     let n = normalise (letters_of ts) in
     let ps = normal_places ts in
-    let cut = c.cut_endings-cut.ensures n ps (c.r_Normalize_pre-normalised.ensures ts st) in (
+    let s = c.r_Normalize_pre-normalised.ensures ts st in (
       subst (λ (x : Word). Stands c.finish_letters.result (started (finish (text (fronts d x))) (front_places (take (length x) ps) (fronts d x)))) (sym (endings_leave_lem d n))
           (subst (λ (k : Kind). let x : Word = maqsura_if_failed (endings d n) (after (endings d n)).text in Stands c.finish_letters.result (started (finish (text (fronts k x))) (front_places (take (length x) ps) (fronts k x))))
-          e (c.finish_letters.ensures _ _ (c.change_front-changed.ensures _ _ cut.0))),
-      cut.1,
+          e (c.finish_letters.ensures _ _ (c.change_front-changed.ensures.stands _ _ (c.cut_endings.ensures.stands n ps s)))),
+      (c.cut_endings.ensures.cut n ps s).number,
     )

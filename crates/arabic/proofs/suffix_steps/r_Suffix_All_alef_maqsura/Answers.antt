@@ -10,9 +10,9 @@ use Rattle.arabic.proofs.Guarded.{front}
 use Rattle.arabic.proofs.LastLetter.{not_last, room, is_last}
 use Rattle.arabic.proofs.suffix_steps.r_Suffix_All_alef_maqsura.Goals as goal
 
-pub returns-then-found-eq0 : goal.returns-then-found-eq0
+pub returns-then-found-eq0-clause-text : goal.returns-then-found-eq0-clause-text
 unfolding A_21 encode encode1
-returns-then-found-eq0 c =
+returns-then-found-eq0-clause-text c =
     let x = c.args.env in
     let f = c.find_among_b-found in
     λ ps w st.
@@ -30,9 +30,9 @@ slice_from-requires c =
     let r = room x ps w st f.result (f.ensures.behind A_21 refl refl w st.scalars (front x.current x.limit c.text.result.now c.text.ensures ∙ st.bytes)) c.if-found-eq0.false in
     ((at_end ps w, st), r.0, r.1)
 
-pub returns : goal.returns
+pub returns-clause-text : goal.returns-clause-text
 unfolding A_21 encode encode1
-returns c =
+returns-clause-text c =
     let x = c.args.env in
     let f = c.find_among_b-found in
     λ ps w st.

@@ -6,13 +6,13 @@ use Rattle.lines.proofs.Feeding.{begun, next, input_ends, room_ends}
 use Rattle.lines.proofs.Reader.feed.Goals as goal
 
 pub loop-used-init : goal.loop-used-init
-loop-used-init c = begun c.args.input.now c.args.self.now c.args.out.now
+loop-used-init g c = begun g.A.Answer.answer g.A.Answer.ROOM c.args.input.now c.args.self.now c.args.out.now
 
 pub loop-used-preserved : goal.loop-used-preserved
-loop-used-preserved c = next c.loop-used.invariant (omega arith) (omega arith) c.take_byte-count.auto.out c.take_byte-count.ensures
+loop-used-preserved g c = next g.A.Answer.answer g.A.Answer.ROOM c.loop-used.invariant (omega arith) (omega arith) c.take_byte-count.auto.out c.take_byte-count.ensures
 
-pub returns-then-out-count-lt-LINE_ROOM : goal.returns-then-out-count-lt-LINE_ROOM
-returns-then-out-count-lt-LINE_ROOM c = room_ends c.loop-used.invariant c.if-out-count-lt-LINE_ROOM.true
+pub returns-then-out-count : goal.returns-then-out-count
+returns-then-out-count g c = room_ends g.A.Answer.answer g.A.Answer.ROOM c.loop-used.invariant (omega arith)
 
 pub returns : goal.returns
-returns c = let e : c.loop-used.used ≡ length c.args.input.now = omega arith in rw e at (input_ends c.loop-used.invariant (omega arith))
+returns g c = let e : c.loop-used.used ≡ length c.args.input.now = omega arith in rw e at (input_ends g.A.Answer.answer g.A.Answer.ROOM c.loop-used.invariant (omega arith))

@@ -3,4 +3,4 @@ use Rattle.lines.proofs.Feeding.{Passed}
 use Rattle.lines.proofs.Reader.feed.Given as goal
 
 abbrev pub invariant-loop-used : goal.invariant-loop-used
-invariant-loop-used l = Passed l.input l.initial.self l.self l.initial.out l.out l.count l.used
+invariant-loop-used g l = Passed g.A.Answer.answer g.A.Answer.ROOM l.input l.initial.self l.self l.initial.out l.out l.count l.used

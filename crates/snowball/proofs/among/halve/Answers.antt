@@ -47,11 +47,11 @@ row-requires g c = k_in c.args.table.now c.loop-j.invariant
 
 pub compare-r-requires : goal.compare-r-requires
 compare-r-requires g c =
-    record { from_bound = shared c.args.table.now c.loop-j.invariant c.row.result.now c.row.ensures c.min-common.result (omega (arith, c.min-common.ensures)) (omega (arith, c.min-common.ensures)) }
+    record { from_bound = shared c.args.table.now c.loop-j.invariant c.row.result.now c.row.ensures.bytes c.min-common.result (omega (arith, c.min-common.ensures)) (omega (arith, c.min-common.ensures)) }
 
 pub loop-j-preserved-then-j-i-le1 : goal.loop-j-preserved-then-j-i-le1
 loop-j-preserved-then-j-i-le1 g c =
-    let n = cut c.args.table.now c.loop-j.invariant c.row.result.now c.row.ensures c.compare-r.result.common c.compare-r.result.less c.compare-r.ensures.common_value c.compare-r.ensures.less_value
+    let n = cut c.args.table.now c.loop-j.invariant c.row.result.now c.row.ensures.bytes c.compare-r.result.common c.compare-r.result.less c.compare-r.ensures.common_value c.compare-r.ensures.less_value
     (elim c.if-r.branch [
       | then-r w ↦ inl (w.if-r.true, w.i-is, w.j-is, w.common_i-is, w.common_j-is)
       | else-r w ↦ inr (w.if-r.false, w.i-is, w.j-is, w.common_i-is, w.common_j-is)
@@ -60,7 +60,7 @@ loop-j-preserved-then-j-i-le1 g c =
 
 pub loop-j-preserved : goal.loop-j-preserved
 loop-j-preserved g c =
-    let n = cut c.args.table.now c.loop-j.invariant c.row.result.now c.row.ensures c.compare-r.result.common c.compare-r.result.less c.compare-r.ensures.common_value c.compare-r.ensures.less_value
+    let n = cut c.args.table.now c.loop-j.invariant c.row.result.now c.row.ensures.bytes c.compare-r.result.common c.compare-r.result.less c.compare-r.ensures.common_value c.compare-r.ensures.less_value
     (elim c.if-r.branch [
       | then-r w ↦ inl (w.if-r.true, w.i-is, w.j-is, w.common_i-is, w.common_j-is)
       | else-r w ↦ inr (w.if-r.false, w.i-is, w.j-is, w.common_i-is, w.common_j-is)
@@ -69,7 +69,7 @@ loop-j-preserved g c =
 
 pub returns-then-i-gt0 : goal.returns-then-i-gt0
 returns-then-i-gt0 g c =
-    let n = cut c.args.table.now c.loop-j.invariant c.row.result.now c.row.ensures c.compare-r.result.common c.compare-r.result.less c.compare-r.ensures.common_value c.compare-r.ensures.less_value
+    let n = cut c.args.table.now c.loop-j.invariant c.row.result.now c.row.ensures.bytes c.compare-r.result.common c.compare-r.result.less c.compare-r.ensures.common_value c.compare-r.ensures.less_value
     (elim c.if-r.branch [
       | then-r w ↦ inl (w.if-r.true, w.i-is, w.j-is, w.common_i-is, w.common_j-is)
       | else-r w ↦ inr (w.if-r.false, w.i-is, w.j-is, w.common_i-is, w.common_j-is)

@@ -1,4 +1,4 @@
--- `rows::Word::at_front` meets its contract: the word's letters stand in the new environment. Assumes nothing.
+-- `rows::Word::at_front` meets its contract: the word's letters stand in the new environment, which has no change. Assumes nothing.
 use native.Mathlib.Omega.{arith}
 use Rattle.utf8.specs.Beside.{letter_starts}
 use Rattle.stemmer.specs.Entries.{letters}
@@ -12,4 +12,4 @@ pub returns : goal.returns
 returns c =
     let w = c.args.self.now.bytes.now in
     let e = c.args.self.now.accepted in
-    (letters w, (letter_starts 0 (letters w), c.create.ensures.1 (letters w) (scalars w e) (spelling w e)))
+    (letters w, (letter_starts 0 (letters w), (c.create.ensures.1 (letters w) (scalars w e) (spelling w e), c.create.ensures.0.made)))

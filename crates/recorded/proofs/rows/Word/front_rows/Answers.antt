@@ -9,14 +9,14 @@ r_Prefix_Step1-first-requires c =
     let f = c.at_front in
     let w = f.ensures.0 in
     let ps = f.ensures.1.0 in
-    (w, (ps, at_start f.result w ps f.ensures.1.1))
+    (w, (ps, at_start f.result w ps f.ensures.1.1.0 f.ensures.1.1.1))
 
 pub left_for_next-requires : goal.left_for_next-requires
 left_for_next-requires c =
     let f = c.at_front in
     let w = f.ensures.0 in
     let ps = f.ensures.1.0 in
-    front_left ps c.r_Prefix_Step1-first.result.outcome (apply prefix_step1 (started w)) (c.r_Prefix_Step1-first.ensures ps w (at_start f.result w ps f.ensures.1.1)).0
+    front_left ps c.r_Prefix_Step1-first.result.outcome (apply prefix_step1 (started w)) (c.r_Prefix_Step1-first.ensures ps w (at_start f.result w ps f.ensures.1.1.0 f.ensures.1.1.1)).0
 
 pub left_for_next-requires-2 : goal.left_for_next-requires-2
 left_for_next-requires-2 c = behind_front prefix_step2 c.left_for_next.result c.left_for_next.ensures c.r_Prefix_Step2-second.result.outcome _ c.r_Prefix_Step2-second.ensures

@@ -20,5 +20,6 @@ returns c =
       limit_backward = refl;
       bra = refl;
       ket = refl;
+      made = refl;
     } in
     (r, λ cs sc e. created w _ cs r (omega (arith, c.requires)) sc e)

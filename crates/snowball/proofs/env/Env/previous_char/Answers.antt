@@ -17,4 +17,4 @@ last_start-requires c =
 pub returns : goal.returns
 returns c =
     let x = c.args.self in
-    (record { bra = refl; ket = refl }, λ s st. previous_stands x s st c.text.result.now c.text.ensures c.requires.1 c.last_start.result c.last_start.ensures)
+    (record { bra = refl; ket = refl; made = refl; changes = refl }, λ s st. previous_stands x s st c.text.result.now c.text.ensures c.requires.1 c.last_start.result c.last_start.ensures)

@@ -28,6 +28,5 @@ returns c =
       limit = refl;
       cursor = elim c.if-self-ket.branch [ then-self-ket w ↦ w.self-is ∙ moved-behind e.cursor x.bra x.ket (length x.s.now) (omega arith) | else-self-ket w ↦ w.self-is ∙ w.min.ensures ∙ moved_least e.cursor x.bra x.ket (length x.s.now) (omega arith) ];
       limit_backward = refl;
-      bra = refl;
-      ket = refl;
+      same = record { bra = refl; ket = refl; made = refl; changes = refl };
     }

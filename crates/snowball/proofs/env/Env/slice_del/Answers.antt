@@ -12,7 +12,7 @@ pub returns-then-self : goal.returns-then-self
 returns-then-self c =
     let x = c.args.self in
     let i = cursor-within x c.requires.0.0 c.requires.0.1 in (
-      record { bra = refl; ket = refl },
+      record { bra = refl; ket = refl; made = refl; changes = refl },
       cut_tail x c.min.result c.requires.1 (omega arith) c.requires.0.1.within (c.min.ensures ∙ tail_least x.bra x.limit (omega arith) x.cursor i),
     )
 

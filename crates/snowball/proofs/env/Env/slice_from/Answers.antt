@@ -13,6 +13,6 @@ replace_s-requires c =
 pub returns : goal.returns
 returns c =
     let r = c.replace_s in (
-      record { bra = r.ensures.bra; ket = r.ensures.ket },
+      r.ensures.same,
       λ cs sc k. sliced c.args.self r.result c.args.s.now cs (omega (arith, c.requires.1)) r.ensures (omega (arith, r.ensures.limit, c.requires.0.1.within, c.requires.1, c.requires.2)) sc k,
     )
