@@ -1,10 +1,11 @@
 -- What is shown of the line machine beside the functions' contracts, each closed by the file that proves it: for any answers, and for the line program of stems. Assumes nothing.
 use mathlib.Core.Path.{◌≡◌, refl}
+use mathlib.Core.Bool.{Bool}
 use mathlib.Core.List.{List, [], ◌∷◌, ◌++◌, map, flatten}
 use Prim.Native.Nat.{ℕ, ◌≤◌, ◌<◌}
-use lib.ListN.{length}
+use lib.ListN.{length, take}
 use Rattle.lines.specs.Plain.{line_feed, skip_mark, lines_of, output}
-use Rattle.lines.specs.Machine.{ByKept, Reading, start, after, written, last_line, Feeds}
+use Rattle.lines.specs.Machine.{kept_bytes, ByKept, Reading, start, after, written, last_line, Feeds}
 use Rattle.lines.specs.Calls.{Calls}
 use Rattle.lines.specs.Refusals.{question_mark, refusal}
 use Rattle.lines.specs.Stems.{answer_line, stem_room, line_room}
@@ -17,7 +18,7 @@ use Rattle.lines.proofs.Answering.{line_answer, line_long, line_kept}
 use Rattle.lines.proofs.Examples.{examples_right}
 use Rattle.lines.proofs.Splitting.{no_lf, line_first, line_last}
 use Rattle.lines.proofs.Calling.{calls_output, calls_are, feeds_some}
-use Rattle.lines.proofs.Whole.{whole}
+use Rattle.lines.proofs.Whole.{whole, last-kept}
 
 module _ {answer : List ℕ → List ℕ} {room : ℕ} where
   -- what calls of `feed` and `finish` write for an input in pieces, whatever the pieces and the outputs that they are lent, is what the plain
@@ -36,6 +37,10 @@ module _ {answer : List ℕ → List ℕ} {room : ℕ} where
 -- what the machine writes for an input, its end included, is what the plain definition says
 pub main_whole : {answer : List ℕ → List ℕ} → ByKept answer → (i : List ℕ) → written answer start i ++ last_line answer (after start i) ≡ output answer i
 main_whole {answer} kept = whole answer kept
+
+-- `Reader::resume` keeps the first bytes of a line: what `finish` then writes is the answer to the whole line
+pub main_resumed : {answer : List ℕ → List ℕ} → ByKept answer → (opening : Bool) (w : List ℕ) → last_line answer (opening, take kept_bytes w) ≡ last_line answer (opening, w)
+main_resumed {answer} kept = last-kept answer kept
 
 -- so it is with the line program of stems
 pub main_stems : {s : Reading} {pieces : List (List ℕ)} {w : List ℕ} → s ≡ start → Calls answer_line line_room s pieces w → w ≡ output answer_line (flatten pieces)

@@ -83,14 +83,15 @@ module _ (answer : List ℕ → List ℕ) where
       last_some answer (false, x ∷ xs) (λ e. omega arith) ∙ sym (ap (flat_map answer) (line_last x xs n) ∙ append-nil (answer (x ∷ xs)))
 
   module _ (kept : ByKept answer) where
-    last-kept : (w : List ℕ) → last_line answer (false, take kept_bytes w) ≡ last_line answer (false, w)
+    -- the first bytes of a last line are answered as the line is, whether the opening mark may still come or not
+    pub last-kept : (opening : Bool) (w : List ℕ) → last_line answer (opening, take kept_bytes w) ≡ last_line answer (opening, w)
     unfolding last_line
-    last-kept w = rw (empty_kept, kept)
+    last-kept opening w = rw (empty_kept, kept)
 
     -- behind the opening: w is the line as far as it was read, of any length
     later : (w bs : List ℕ) → NoLf w → run (false, take kept_bytes w) bs ≡ answered (w ++ bs)
     unfolding run written after
-    later w [] n = last-kept w ∙ rw append-nil (answered_last w n)
+    later w [] n = last-kept false w ∙ rw append-nil (answered_last w n)
     later w (b ∷ bs) n = by (eqb b line_feed)
         (λ e. run_lf (false, take kept_bytes w) b bs e ∙ rw (kept, later [] bs tt) (sym (answered_lf w b bs n e)))
         (λ e.

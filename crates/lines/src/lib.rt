@@ -6,8 +6,8 @@ pub mod line;
 pub mod refusals;
 pub mod stems;
 
-ghost use Rattle.std.specs.Prelude.{◌≡◌, ◌≤◌, length};
-ghost use Rattle.lines.specs.Machine.{Reading, start, opened, Turns, Feeds, Ends};
+ghost use Rattle.std.specs.Prelude.{◌≡◌, ◌≤◌, length, take};
+ghost use Rattle.lines.specs.Machine.{kept_bytes, Reading, start, opened, Turns, Feeds, Ends};
 
 use answer::Answer;
 use line::Line;
@@ -48,6 +48,26 @@ impl<A: Answer> Reader<A> {
             line: Line::new(),
             answers: PhantomData,
         }
+    }
+
+    // A reader that goes on where another one stood: whether the input's opening mark may still come, and the line as far as it was read, of
+    // which the first bytes are kept.
+    pub fn resume(opening: bool, line: &[u8]) -> Self
+        ensures { result ≡ (opening, take kept_bytes line.now) }
+    {
+        Reader {
+            opening,
+            line: Line::of(line),
+            answers: PhantomData,
+        }
+    }
+
+    // Where it stands: whether the input's opening mark may still come, and what is kept of the line that is being read.
+    pub fn so_far(&self) -> (bool, &[u8])
+        ensures opening { result.0 ≡ self.now.0 }
+        ensures line { result.1.now ≡ self.now.1 }
+    {
+        (self.opening, self.line.as_bytes())
     }
 
     // The third byte of the input decides whether it opens with the mark, which is skipped.

@@ -31,6 +31,16 @@ impl<const N: usize> Line<N> {
         }
     }
 
+    // The first N bytes of a line.
+    pub fn of(bytes: &[u8]) -> Self
+        ensures { result ≡ take N bytes.now }
+    {
+        let len = bytes.len().min(N);
+        let mut buffer = [0; N];
+        buffer[..len].copy_from_slice(&bytes[..len]);
+        Line { buffer, len }
+    }
+
     pub fn as_bytes(&self) -> &[u8]
         ensures { result.now ≡ self.now }
     {
