@@ -3,8 +3,8 @@
 // hexadecimal too: before the call the number at i is hexadecimal 1000 + i.
 #![tactic(auto)]
 
-ghost use Rattle.std.specs.Prelude.{◌≡◌, ◌≤◌};
-ghost use Rattle.edges.specs.declared.TheConstants.{LARGEST};
+ghost use Rattle.std.specs.Prelude.{◌≡◌, ◌≤◌, length};
+ghost use Rattle.edges.specs.Sizes.{largest, space};
 
 use arabic::kind::Kind;
 use std::io::Write;
@@ -76,14 +76,15 @@ impl fmt::Display for Told {
 struct Lent {
     bytes: [u8; SPACE],
     room: usize,
-    ghost within: { room ≤ LARGEST },
+    ghost within: { room ≤ largest },
 }
 
 impl Lent {
     // The output before a call: no two neighbours are alike, and no other part of it begins as the front does.
     fn new(room: usize) -> Lent
-        requires { room ≤ LARGEST }
-        ensures { result.room ≡ room }
+        requires { room ≤ largest }
+        ensures room { result.room ≡ room }
+        ensures sized { length result.bytes ≡ space }
     {
         Lent {
             bytes: array::from_fn(|i| (i % 251) as u8),
@@ -136,14 +137,15 @@ impl fmt::Display for Placed {
 struct LentNumbers {
     numbers: [u16; SPACE],
     room: usize,
-    ghost within: { room ≤ LARGEST },
+    ghost within: { room ≤ largest },
 }
 
 impl LentNumbers {
     // The buffer before a call: no two numbers are alike, and none is a place.
     fn new(room: usize) -> LentNumbers
-        requires { room ≤ LARGEST }
-        ensures { result.room ≡ room }
+        requires { room ≤ largest }
+        ensures room { result.room ≡ room }
+        ensures sized { length result.numbers ≡ space }
     {
         LentNumbers {
             numbers: array::from_fn(|i| 0x1000 + i as u16),

@@ -5,6 +5,10 @@
 
 mod rows;
 
+ghost use Rattle.std.specs.Prelude.{◌≡◌};
+ghost use Rattle.lines.specs.Line.{put_behind};
+ghost use Rattle.recorded.specs.Sizes.{line_bytes};
+
 use arabic::kind::Kind;
 use lines::line::Line;
 use std::io;
@@ -58,6 +62,13 @@ fn answer(output: &mut impl Write, word: &[u8], out: &mut [u8]) -> io::Result<()
     writeln!(output)
 }
 
+// A byte behind the line that is read; the tail of a line of more than KEPT_BYTES is dropped.
+fn keep(line: &mut Line<KEPT_BYTES>, byte: u8)
+    ensures { line.new ≡ put_behind line_bytes line.old byte }
+{
+    line.push(byte);
+}
+
 // LF answers the line in front of it, and a last line with no LF is not answered.
 fn run(input: impl Read + Drop, output: &mut impl Write) -> io::Result<()> {
     let mut line = Line::<KEPT_BYTES>::new();
@@ -68,7 +79,7 @@ fn run(input: impl Read + Drop, output: &mut impl Write) -> io::Result<()> {
             answer(output, line.as_bytes(), &mut out)?;
             line.clear();
         } else {
-            line.push(byte);
+            keep(&mut line, byte);
         }
     }
     Ok(())
