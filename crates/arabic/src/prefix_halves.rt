@@ -3,6 +3,7 @@ ghost use Rattle.std.specs.Prelude.{◌≡◌, false, List, ℕ, ◌*◌, ◌≤
 ghost use Rattle.definition.specs.Words.{Word};
 ghost use Rattle.definition.specs.Fronts.{PrefixStep, prefix, not_at, Fronting, text, begins_with_any, apply};
 ghost use Rattle.definition.specs.StepRow.{of_front, step_row};
+ghost use Rattle.utf8.specs.Utf8.{encode};
 ghost use Rattle.utf8.specs.Spelt.{Encodes, Spelt};
 ghost use Rattle.arabic.specs.Changes.{prefix_number};
 ghost use Rattle.arabic.specs.Fronts.{AtFront, GivesText, Takes, Puts, ChangesInPlace};
@@ -30,7 +31,7 @@ pub fn front_row(
 ) -> Searched<Option<TakenRow>>
     requires { Spelt text.now × (cursor ≤ length text.now) }
     ensures { (s : PrefixStep) → IsRule (prefix s) table.now.rows.now table.now.lens.now table.now.classes.now guards.now
-        → (t rest : Word) → Encodes text.now t → Encodes (drop cursor text.now) rest → Takes s t rest cursor result }
+        → (t rest : Word) → text.now ≡ encode t → Encodes (drop cursor text.now) rest → Takes s t rest cursor result }
 {
     let found = find_among(text, cursor, text.len(), table);
     let class = found.class;

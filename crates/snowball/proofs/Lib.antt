@@ -8,6 +8,7 @@ pub mod Read
 pub mod Longest
 pub mod Bytes
 pub mod Answers
+pub mod Owned
 pub mod Searched
 pub mod Copy
 pub mod Cut

@@ -31,11 +31,15 @@ use Rattle.stemmer.specs.declared.outcome.Refusal.{Refusal}
 use Rattle.stemmer.specs.declared.outcome.Refusal.TheVariants.{Bad, NoRoom}
 use Rattle.stemmer.specs.Entries.{Answer, refusal_code, code_of, count_of, endings_of, most_bytes, enough_room, letters, bytes_of, checked, after_checks, fitting, answer, out_after, part_after, with_endings, without_endings, kind_after, kind_answer, Demand3After, FewEndingsOf, stem_bytes, stem_answer, stem_entry}
 
--- ---- checking: a word that is too long, and one that is accepted
+-- ---- checking: a word that is too long, one that is not well formed, and one that is accepted
 module _ (word : List ℕ) where
   pub too_long : most_bytes < length word → checked word ≡ Err TooLong
   unfolding checked
   too_long h = rw (lt-ltb most_bytes (length word) h) refl
+
+  pub malformed : length word ≤ most_bytes → well_formed word ≡ false → checked word ≡ Err NotWellFormed
+  unfolding checked
+  malformed h e = rw (le-ltb most_bytes (length word) h, e) refl
 
   pub accepted : length word ≤ most_bytes → well_formed word ≡ true → checked word ≡ Ok tt
   unfolding checked

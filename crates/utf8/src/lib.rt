@@ -9,7 +9,7 @@ ghost use Rattle.utf8.specs.Reading.{bare, state_of, standing};
 
 // Where a reader of well-formed bytes stands.
 #[derive(Clone, Copy, PartialEq, Eq)]
-enum Reading {
+pub enum Reading {
     // Past a whole letter.
     Whole,
     // One, two or three bytes before a letter's end.

@@ -19,4 +19,4 @@ returns c =
     λ s q t rest e b.
     subst (λ (o : Option TakenRow). Takes s t rest a.cursor (record { row = f.result.row; outcome = o })) (sym c.then_some.ensures)
     (takes s t rest a.cursor f.result (f.ensures.ahead (prefix s).table q.table q.letters rest b.0 (from_here a.text.now a.cursor ∙ b.1)) c.met-taken.result
-    (c.met-taken.ensures t e.1 ∙ ap (λ (guards : List ℕ). met guards f.result.class (length t)) q.guards))
+    (c.met-taken.ensures t e ∙ ap (λ (guards : List ℕ). met guards f.result.class (length t)) q.guards))

@@ -13,11 +13,11 @@ replace_front-requires c =
     let s = c.requires.0 in
     let w = c.requires.1.0 in
     let p = c.requires.1.1 in
-    (s, (w, (p.0, (c.front_row-found.ensures s p.1.0 (text w) w.rest (whole_text x p.0.0 w p.0.1.stands t.result.now t.ensures) (rest_text x p.0.0 w p.0.1.stands t.result.now t.ensures), p.1.1, p.1.2))))
+    (s, (w, (p.0, (c.front_row-found.ensures s p.1.0 (text w) w.rest (whole_text x p.0.0 w p.0.1.stands t.result.now t.ensures).1 (rest_text x p.0.0 w p.0.1.stands t.result.now t.ensures), p.1.1, p.1.2))))
 
 pub returns : goal.returns
 returns c =
     let x = c.args.env in
     let t = c.text in
     λ s ps w st r pe first nb ch.
-    c.replace_front.ensures s ps w st (c.front_row-found.ensures s r (text w) w.rest (whole_text x ps w st.stands t.result.now t.ensures) (rest_text x ps w st.stands t.result.now t.ensures)) pe first nb ch
+    c.replace_front.ensures s ps w st (c.front_row-found.ensures s r (text w) w.rest (whole_text x ps w st.stands t.result.now t.ensures).1 (rest_text x ps w st.stands t.result.now t.ensures)) pe first nb ch

@@ -39,7 +39,7 @@ replace_front-requires c =
     let t = c.text in
     let tk : Takes prefix_step1 w w x.cursor f =
     c.front_row-found.ensures prefix_step1 (record { table = refl; letters = refl; guards = refl }) w w
-    (whole_text x ps (started w) st.stands t.result.now t.ensures) (rest_text x ps (started w) st.stands t.result.now t.ensures) in
+    (whole_text x ps (started w) st.stands t.result.now t.ensures).1 (rest_text x ps (started w) st.stands t.result.now t.ensures) in
     let n : length x.places ≡ work_size = search rules in
     let wide : 2 < length x.places = omega arith in
     elim c.if-first_kept.branch [
@@ -83,7 +83,7 @@ returns c =
     let t = c.text in
     let tk : Takes prefix_step1 w w x.cursor f =
     c.front_row-found.ensures prefix_step1 (record { table = refl; letters = refl; guards = refl }) w w
-    (whole_text x ps (started w) st.stands t.result.now t.ensures) (rest_text x ps (started w) st.stands t.result.now t.ensures) in
+    (whole_text x ps (started w) st.stands t.result.now t.ensures).1 (rest_text x ps (started w) st.stands t.result.now t.ensures) in
     elim c.if-first_kept.branch [
       | then-first_kept k ↦
           let e = k.if-first_kept.true in
