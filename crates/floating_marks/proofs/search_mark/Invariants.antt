@@ -1,4 +1,4 @@
--- `search_mark` meets its contract: each turn passes a letter that is no mark. Assumes nothing.
+-- `search_mark` meets its contract: each turn passes a letter that begins with EF, and the search those that do not. Assumes nothing.
 use Prim.Native.Nat.{◌-◌}
 use lib.ListN.{length}
 use Rattle.floating_marks.proofs.Finding.{Inv}
